@@ -1,0 +1,5 @@
+pub mod Name
+pub mod Token
+pub mod Tree
+pub mod Grammar
+pub mod Rules
