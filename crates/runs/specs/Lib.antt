@@ -1,0 +1,4 @@
+pub mod Run
+pub mod Moment
+pub mod FiniteMap
+pub mod Laws
