@@ -2,3 +2,4 @@ pub mod Run
 pub mod Moment
 pub mod FiniteMap
 pub mod Laws
+pub mod Number
