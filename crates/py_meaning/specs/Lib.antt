@@ -6,3 +6,4 @@ pub mod Rules
 pub mod Value
 pub mod Program
 pub mod Machine
+pub mod Binding
