@@ -3,3 +3,4 @@ pub mod Token
 pub mod Tree
 pub mod Grammar
 pub mod Rules
+pub mod Lexer
