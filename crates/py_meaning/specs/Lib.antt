@@ -4,3 +4,6 @@ pub mod Tree
 pub mod Grammar
 pub mod Rules
 pub mod Lexer
+pub mod Value
+pub mod Program
+pub mod Machine
