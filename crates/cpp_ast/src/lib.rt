@@ -1,13 +1,10 @@
-// A library with one function.
+//! Trees of emitted C++20, as far as the emission uses them. A contract sees a tree by its plain view, `plain` of
+//! `specs/Plain.antt`, which is a tree of the definitions.
 #![tactic(auto)]
 
-ghost use Rattle.std.specs.Prelude.{◌≡◌};
-ghost use Rattle.cpp_ast.specs.Echo.{echo_of};
+mod tree;
 
-// The `ensures` clause is the contract: what `echo` returns is `echo_of` of its argument, a definition
-// in `specs/Echo.antt`, which a caller's clause can cite too.
-pub fn echo(x: usize) -> usize
-    ensures { result ≡ echo_of x }
-{
-    x
-}
+pub use tree::{
+    CppBinary, CppDeclaration, CppDefinition, CppExpr, CppModule, CppProgram, CppRow, CppStmt,
+    CppType, CppValue, CppZero,
+};
