@@ -3,8 +3,8 @@ use Rattle.std.specs.Prelude.{◌≡◌, ℕ, List, take, Option, option_map, Re
 use Rattle.std.specs.Ordering.{nat_cmp}
 use Rattle.std.specs.Cmp.Lexicographic.{slice_cmp}
 use Rattle.std.specs.FinMap as map
-use Rattle.shed_base.specs.declared.IoRefusal.{IoRefusal}
-use Rattle.shed_base.specs.declared.IoRefusal.TheVariants.{Failed, NoMemory}
+use Rattle.shed_base.specs.declared.refusals.IoRefusal.{IoRefusal}
+use Rattle.shed_base.specs.declared.refusals.IoRefusal.TheVariants.{Failed, NoMemory}
 
 -- from names to contents, both as bytes
 abbrev pub Files : Type 0

@@ -1,5 +1,5 @@
 ghost use Rattle.std.specs.Prelude.{◌≡◌};
-ghost use Rattle.shed_base.specs.Memory.{next_fails, one_more};
+ghost use Rattle.shed_base.specs.Memory.{next_fails, no_calls, one_more};
 
 use std::marker::Model;
 
@@ -21,7 +21,7 @@ impl Model for CallCount {
 
 impl CallCount {
     pub(crate) fn new(listed: Vec<u64>) -> CallCount
-        ensures { result ≡ record { listed = listed.items; made = 0 } }
+        ensures { result ≡ no_calls listed.items }
     {
         CallCount { listed, made: 0 }
     }

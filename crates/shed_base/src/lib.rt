@@ -6,11 +6,15 @@
 #![tactic(auto)]
 
 mod calls;
+mod memory_folder;
+mod memory_sink;
 mod memory_source;
 mod outside;
 mod place;
 mod refusals;
 
+pub use memory_folder::MemoryFolder;
+pub use memory_sink::MemorySink;
 pub use memory_source::MemorySource;
 pub use outside::{Folder, Sink, Source};
 pub use place::Place;

@@ -1,6 +1,6 @@
 ghost use Rattle.std.specs.Prelude.{◌≡◌, ℕ, ◌<◌, ◌≤◌, length, take, drop, Some, IfOk, IsErr, is_err, ◌++◌};
 ghost use Rattle.shed_base.specs.Outside.{Rose, put_back, EndsWithZero};
-ghost use Rattle.shed_base.specs.Memory.{next_fails, next_count, after_read};
+ghost use Rattle.shed_base.specs.Memory.{next_fails, next_count, new_source, after_read};
 
 use crate::calls::CallCount;
 use crate::outside::Source;
@@ -33,7 +33,7 @@ impl MemorySource {
     /// from 0, of the calls that are to fail.
     pub fn new(bytes: Vec<u8>, most: usize, fails: Vec<u64>) -> MemorySource
         requires { 1 ≤ most }
-        ensures { result ≡ record { rest = bytes.items; most; calls = record { listed = fails.items; made = 0 }; faults = 0 } }
+        ensures { result ≡ new_source bytes.items most fails.items }
     {
         MemorySource {
             bytes,
@@ -45,6 +45,7 @@ impl MemorySource {
     }
 }
 
+#[tactic(auto, using(crate::proofs::Lists::copied_and_left))]
 impl Source for MemorySource {
     ghost left = { λ s. Some s.rest };
 
