@@ -72,7 +72,7 @@ impl MemoryFolder {
         ensures { option_copied result ≡ file_of self.now.files name.now }
     {
         for file in &self.log {
-            if file.name.as_str() == name {
+            if name == file.name.as_str() {
                 return Some(file.bytes.as_slice());
             }
         }
