@@ -12,6 +12,7 @@ mod memory_source;
 mod outside;
 mod place;
 mod refusals;
+mod system;
 
 pub use memory_folder::MemoryFolder;
 pub use memory_sink::MemorySink;
@@ -19,3 +20,4 @@ pub use memory_source::MemorySource;
 pub use outside::{Folder, Sink, Source};
 pub use place::Place;
 pub use refusals::{Failed, IoRefusal, NoMemory};
+pub use system::{RealFolder, StdSink, StdSource};
