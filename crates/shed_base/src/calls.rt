@@ -31,7 +31,10 @@ impl CallCount {
         ensures fails { result ≡ next_fails self.old }
         ensures counted { self.new ≡ one_more self.old }
     {
-        let fails = self.listed.iter().any(|&number| u128::from(number) == self.made);
+        let fails = self
+            .listed
+            .iter()
+            .any(|&number| u128::from(number) == self.made);
         self.made = self.made.saturating_add(1);
         fails
     }

@@ -21,3 +21,6 @@ pub use outside::{Folder, Sink, Source};
 pub use place::Place;
 pub use refusals::{Failed, IoRefusal, NoMemory};
 pub use system::{RealFolder, StdSink, StdSource};
+
+#[cfg(test)]
+mod tests;

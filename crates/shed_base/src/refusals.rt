@@ -5,17 +5,17 @@ use std::alloc::{AllocError, AllocFailed};
 use thiserror::Error;
 
 /// Memory ran out.
-#[derive(Debug, Drop, Error)]
+#[derive(Debug, Drop, PartialEq, Eq, Error)]
 #[error("out of memory")]
 pub struct NoMemory;
 
 /// A call on the world outside failed.
-#[derive(Debug, Drop, Error)]
+#[derive(Debug, Drop, PartialEq, Eq, Error)]
 #[error("the call failed")]
 pub struct Failed;
 
 /// Why a call on the world outside gave no answer.
-#[derive(Debug, Drop, Error)]
+#[derive(Debug, Drop, PartialEq, Eq, Error)]
 pub enum IoRefusal {
     #[error("the call failed")]
     Failed,

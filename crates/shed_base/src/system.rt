@@ -6,11 +6,10 @@ ghost use Rattle.shed_base.specs.Outside.{Rose};
 use crate::outside::{Folder, Sink, Source};
 use crate::refusals::{Failed, IoRefusal};
 use std::alloc::{AllocError, Global};
-use std::fs;
-use std::io;
 use std::io::{ErrorKind, Read, Write};
 use std::marker::Model;
 use std::rt::Files;
+use std::{fs, io};
 
 /// Input from a reader of the system, such as standard input.
 #[derive(Drop)]
