@@ -93,11 +93,13 @@ impl Folder for MemoryFolder {
         name: &str,
         most: usize,
     ) -> Result<Option<Vec<u8>>, IoRefusal>
-        ensures gives { IfOk result (λ found. ReadsFile (Some self.old.files) name.now most (option_map vec_items found)) }
+        ensures gives { IfOk result (λ found.
+            ReadsFile (Some self.old.files) name.now most (option_map vec_items found)) }
         ensures kept { Some self.new.files ≡ Some self.old.files }
         ensures later { self.old.read_faults ≤ self.new.read_faults }
         ensures others { self.new.write_faults ≡ self.old.write_faults }
-        ensures failed { IsErrOf result IoRefusal.Failed → Rose self.old.read_faults self.new.read_faults }
+        ensures failed { IsErrOf result IoRefusal.Failed →
+            Rose self.old.read_faults self.new.read_faults }
 
         // It fails exactly as listed.
         ensures listed { is_failed result ≡ next_fails self.old.calls }
@@ -117,10 +119,12 @@ impl Folder for MemoryFolder {
     }
 
     fn write_file(&mut self, name: &str, bytes: &[u8]) -> Result<(), IoRefusal>
-        ensures written { WritesFile (Some self.old.files) (Some self.new.files) name.now bytes.now result }
+        ensures written { WritesFile (Some self.old.files) (Some self.new.files)
+            name.now bytes.now result }
         ensures later { self.old.write_faults ≤ self.new.write_faults }
         ensures others { self.new.read_faults ≡ self.old.read_faults }
-        ensures failed { IsErrOf result IoRefusal.Failed → Rose self.old.write_faults self.new.write_faults }
+        ensures failed { IsErrOf result IoRefusal.Failed →
+            Rose self.old.write_faults self.new.write_faults }
 
         // It fails exactly as listed, unless memory runs out.
         ensures listed { FailsAsListed (next_fails self.old.calls) result }

@@ -59,9 +59,12 @@ impl Sink for MemorySink {
     fn write(&mut self, piece: &[u8]) -> Result<usize, IoRefusal>
         ensures count { IfOk result (λ n. n ≤ length piece.now) }
         ensures some { IfOk result (λ n. 0 < length piece.now → 0 < n) }
-        ensures written { IfOk result (λ n. Some self.new.bytes ≡ appended (Some self.old.bytes) (take n piece.now)) }
-        ensures part { IsErrOf result IoRefusal.Failed → (n : ℕ) × (Some self.new.bytes ≡ appended (Some self.old.bytes) (take n piece.now)) }
-        ensures kept { IsErrOf result IoRefusal.NoMemory → Some self.new.bytes ≡ Some self.old.bytes }
+        ensures written { IfOk result (λ n.
+            Some self.new.bytes ≡ appended (Some self.old.bytes) (take n piece.now)) }
+        ensures part { IsErrOf result IoRefusal.Failed →
+            (n : ℕ) × (Some self.new.bytes ≡ appended (Some self.old.bytes) (take n piece.now)) }
+        ensures kept { IsErrOf result IoRefusal.NoMemory →
+            Some self.new.bytes ≡ Some self.old.bytes }
         ensures later { self.old.faults ≤ self.new.faults }
         ensures failed { IsErrOf result IoRefusal.Failed → Rose self.old.faults self.new.faults }
 

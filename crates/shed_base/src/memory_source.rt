@@ -53,7 +53,8 @@ impl Source for MemorySource {
 
     fn read(&mut self, into: &mut [u8]) -> Result<usize, Failed>
         ensures count { IfOk result (λ n. n ≤ length into.new) }
-        ensures taken { IfOk result (λ n. Some self.old.rest ≡ put_back (take n into.new) (Some self.new.rest)) }
+        ensures taken { IfOk result (λ n.
+            Some self.old.rest ≡ put_back (take n into.new) (Some self.new.rest)) }
         ensures end { IfOk result (λ n. 0 < length into.new → EndsWithZero n (Some self.old.rest)) }
         ensures kept { IsErr result → Some self.new.rest ≡ Some self.old.rest }
         ensures later { self.old.faults ≤ self.new.faults }

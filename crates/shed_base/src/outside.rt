@@ -19,7 +19,8 @@ pub trait Source {
     /// of `into` may hold anything then.
     fn read(&mut self, into: &mut [u8]) -> Result<usize, Failed>
         ensures count { IfOk result (λ n. n ≤ length into.new) }
-        ensures taken { IfOk result (λ n. left self.old ≡ put_back (take n into.new) (left self.new)) }
+        ensures taken { IfOk result (λ n.
+            left self.old ≡ put_back (take n into.new) (left self.new)) }
         ensures end { IfOk result (λ n. 0 < length into.new → EndsWithZero n (left self.old)) }
         ensures kept { IsErr result → left self.new ≡ left self.old }
         ensures later { faults self.old ≤ faults self.new }
@@ -40,11 +41,14 @@ pub trait Sink {
     fn write(&mut self, piece: &[u8]) -> Result<usize, IoRefusal>
         ensures count { IfOk result (λ n. n ≤ length piece.now) }
         ensures some { IfOk result (λ n. 0 < length piece.now → 0 < n) }
-        ensures written { IfOk result (λ n. held self.new ≡ appended (held self.old) (take n piece.now)) }
-        ensures part { IsErrOf result IoRefusal.Failed → (n : ℕ) × (held self.new ≡ appended (held self.old) (take n piece.now)) }
+        ensures written { IfOk result (λ n.
+            held self.new ≡ appended (held self.old) (take n piece.now)) }
+        ensures part { IsErrOf result IoRefusal.Failed →
+            (n : ℕ) × (held self.new ≡ appended (held self.old) (take n piece.now)) }
         ensures kept { IsErrOf result IoRefusal.NoMemory → held self.new ≡ held self.old }
         ensures later { faults self.old ≤ faults self.new }
-        ensures failed { IsErrOf result IoRefusal.Failed → Rose (faults self.old) (faults self.new) };
+        ensures failed { IsErrOf result IoRefusal.Failed →
+            Rose (faults self.old) (faults self.new) };
 }
 
 /// Files by their names.
@@ -66,11 +70,13 @@ pub trait Folder {
         name: &str,
         most: usize,
     ) -> Result<Option<Vec<u8>>, IoRefusal>
-        ensures gives { IfOk result (λ found. ReadsFile (files self.old) name.now most (option_map vec_items found)) }
+        ensures gives { IfOk result (λ found.
+            ReadsFile (files self.old) name.now most (option_map vec_items found)) }
         ensures kept { files self.new ≡ files self.old }
         ensures later { read_faults self.old ≤ read_faults self.new }
         ensures others { write_faults self.new ≡ write_faults self.old }
-        ensures failed { IsErrOf result IoRefusal.Failed → Rose (read_faults self.old) (read_faults self.new) };
+        ensures failed { IsErrOf result IoRefusal.Failed →
+            Rose (read_faults self.old) (read_faults self.new) };
 
     /// Writes a file, in place of one of that name if there is one.
     ///
@@ -80,5 +86,6 @@ pub trait Folder {
         ensures written { WritesFile (files self.old) (files self.new) name.now bytes.now result }
         ensures later { write_faults self.old ≤ write_faults self.new }
         ensures others { read_faults self.new ≡ read_faults self.old }
-        ensures failed { IsErrOf result IoRefusal.Failed → Rose (write_faults self.old) (write_faults self.new) };
+        ensures failed { IsErrOf result IoRefusal.Failed →
+            Rose (write_faults self.old) (write_faults self.new) };
 }
