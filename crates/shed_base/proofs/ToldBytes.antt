@@ -1,5 +1,5 @@
 -- Several calls of a source or a sink as one.
-use Rattle.std.proofs.Common.{◌≡◌, ℕ, ◌+◌, List, [], ◌++◌, take, drop, Option, Some, None, refl, sym, ap, ◌∙◌, append_assoc, append-nil}
+use Rattle.std.proofs.Common.{◌≡◌, ℕ, List, [], ◌++◌, Option, Some, None, refl, sym, ap, append_assoc, append-nil}
 use Rattle.shed_base.specs.Outside.{appended, put_back}
 
 pub appended-nil : (held : Option (List ℕ)) → appended held [] ≡ held
