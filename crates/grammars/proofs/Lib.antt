@@ -1,0 +1,5 @@
+pub mod Bools
+pub mod Sets
+pub mod Rows
+pub mod Sound
+pub mod Complete

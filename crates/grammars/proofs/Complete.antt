@@ -1,0 +1,82 @@
+-- What is derived is run to its end, where one token of sight decides; so a sentence has one value.
+use Rattle.std.proofs.Common.{◌≡◌, ℕ, zero, suc, Bool, true, false, cond, ◌==◌, List, [], ◌∷◌, ◌++◌, ◌⊎◌, inl, inr, refl, sym, ap, ◌∙◌, subst, eq-eqb, eqb-true, Option, Some, None}
+use Rattle.grammars.specs.Grammar.{Sym, Tok, Non, Do, allows, Row, Grammar, IsRow, Sight, sight}
+use Rattle.grammars.specs.Derivation.{Derives, Yields}
+use Rattle.grammars.specs.Sets.{Sets, same_sight, has, ahead, are_nullable, are_followed, is_ahead_within, is_decided, is_start}
+use Rattle.grammars.specs.Run.{Outcome, Done, Stuck, Late, pick, expand, run}
+use Rattle.grammars.specs.Laws.{Complete, OneValue, Begins}
+use Rattle.grammars.proofs.Bools.{and_left, and_right, both, on_left, on_right, same_sight_eq, same_sight_refl}
+use Rattle.grammars.proofs.Sets.{IsWithin, has-append, has_before, has_behind, split_ahead, ahead_within, is_ahead_within_lem, ahead_cases}
+use Rattle.grammars.proofs.Rows.{pick_row, pick_is_row, IsClosed, row_closed}
+
+-- what may come behind a stack is the end
+abbrev pub at_end : List Sight
+at_end = None ∷ []
+
+-- the follow set of each nonterminal on the stack has what may come behind it here
+abbrev pub IsFollowed : {N A T : Type 0} → Sets N T → List (Sym N A) → Type 0
+IsFollowed S [] = Unit {0}
+IsFollowed S (Tok k ∷ symbols) = IsFollowed S symbols
+IsFollowed S (Non x ∷ symbols) = IsWithin (ahead S at_end symbols) (S.follow x) × IsFollowed S symbols
+IsFollowed S (Do a ∷ symbols) = IsFollowed S symbols
+
+pub start_followed : {N A T : Type 0} (S : Sets N T) (symbols : List (Sym N A)) → is_start S symbols ≡ true → IsFollowed S symbols
+start_followed S [] h = tt
+start_followed S (Tok k ∷ symbols) h = start_followed S symbols h
+start_followed S (Non x ∷ symbols) h = (is_ahead_within_lem S at_end symbols (S.follow x) (and_left _ _ h), start_followed S symbols (and_right _ _ h))
+start_followed S (Do a ∷ symbols) h = start_followed S symbols h
+
+-- a row of x in place of x
+pub row_followed : {N A T : Type 0} (S : Sets N T) (behind : List Sight) (front symbols : List (Sym N A)) → are_followed S behind front ≡ true
+    → IsWithin (ahead S at_end symbols) behind → IsFollowed S symbols → IsFollowed S (front ++ symbols)
+row_followed S behind [] symbols h i f = f
+row_followed S behind (Tok k ∷ front) symbols h i f = row_followed S behind front symbols h i f
+row_followed S behind (Non x ∷ front) symbols h i f =
+    (λ s p. is_ahead_within_lem S behind front (S.follow x) (and_left _ _ h) s
+        (ahead_within S _ behind front i s (split_ahead S at_end front symbols s p)), row_followed S behind front symbols (and_right _ _ h) i f)
+row_followed S behind (Do a ∷ front) symbols h i f = row_followed S behind front symbols h i f
+
+-- what a stack derives begins with what lies ahead of it
+pub sight_ahead : {N A T V : Type 0} (G : Grammar N A T V) (S : Sets N T) → ((x : N) → is_decided G S x ≡ true)
+    → (n : ℕ) (symbols : List (Sym N A)) (v : V) (ts : List T) (w : V) → Derives G n symbols v ts w → has (ahead S at_end symbols) (sight G ts) ≡ true
+sight_ahead G S c zero [] v ts w d = rw d.0 refl
+sight_ahead G S c zero (s ∷ symbols) v ts w d = absurd d
+sight_ahead G S c (suc n) [] v ts w d = absurd d
+sight_ahead G S c (suc n) (Tok k ∷ symbols) v ts w d = rw (d.2, d.3) (on_left _ _ (same_sight_refl (Some k)))
+sight_ahead {N} {A} {T} {V} G S c (suc n) (Non x ∷ symbols) v ts w d =
+    let r : Row N A V = d.0 in
+    let p : has (ahead S at_end (r.symbols ++ symbols)) (sight G ts) ≡ true = sight_ahead G S c n (r.symbols ++ symbols) v ts w d.3 in
+    let k : IsClosed S x r.symbols = row_closed G S x r (c x) d.1 in
+    elim (ahead_cases S (ahead S at_end symbols) r.symbols (sight G ts) (split_ahead S at_end r.symbols symbols _ p)) [
+        inl q ↦ has_before (S.first x) _ _ (is_ahead_within_lem S [] r.symbols (S.first x) k.first _ q)
+      | inr q ↦ has_behind (S.first x) _ _ (rw (k.nullable q.0) q.1) ]
+sight_ahead G S c (suc n) (Do a ∷ symbols) v ts w d = sight_ahead G S c n symbols (G.act a v) ts w d
+
+-- so the row of a derivation is the one that is picked
+pub row_picked : {N A T V : Type 0} (G : Grammar N A T V) (S : Sets N T) → ((x : N) → is_decided G S x ≡ true)
+    → (n : ℕ) (x : N) (symbols : List (Sym N A)) (v : V) (ts : List T) (w : V) (r : Row N A V) → IsFollowed S (Non x ∷ symbols)
+    → IsRow r (G.rows x) → allows r.guard v ≡ true → Derives G n (r.symbols ++ symbols) v ts w → pick G S x v (sight G ts) ≡ Some r
+row_picked G S c n x symbols v ts w r f i g d =
+    let p : has (ahead S at_end (r.symbols ++ symbols)) (sight G ts) ≡ true = sight_ahead G S c n (r.symbols ++ symbols) v ts w d in
+    pick_row G S x r v (sight G ts) (c x) i (ahead_within S _ (S.follow x) r.symbols f.0 (sight G ts) (split_ahead S at_end r.symbols symbols _ p)) g
+
+pub still_followed : {N A T V : Type 0} (G : Grammar N A T V) (S : Sets N T) → ((x : N) → is_decided G S x ≡ true)
+    → (x : N) (symbols : List (Sym N A)) (r : Row N A V) → IsFollowed S (Non x ∷ symbols) → IsRow r (G.rows x) → IsFollowed S (r.symbols ++ symbols)
+still_followed G S c x symbols r f i = let k : IsClosed S x r.symbols = row_closed G S x r (c x) i in row_followed S (S.follow x) r.symbols symbols k.follow f.0 f.1
+
+pub complete_from : {N A T V : Type 0} (G : Grammar N A T V) (S : Sets N T) → ((x : N) → is_decided G S x ≡ true)
+    → (n : ℕ) (symbols : List (Sym N A)) (v : V) (ts : List T) (w : V) → IsFollowed S symbols
+    → Derives G n symbols v ts w → run G S n symbols v ts ≡ Done w
+complete_from G S c zero [] v ts w f d = rw d.0 (ap Done d.1)
+complete_from G S c zero (s ∷ symbols) v ts w f d = absurd d
+complete_from G S c (suc n) [] v ts w f d = absurd d
+complete_from G S c (suc n) (Tok k ∷ symbols) v ts w f d =
+    let e : (G.kind d.0 == k) ≡ true = eq-eqb _ _ d.3 in
+    rw (d.2, e) (complete_from G S c n symbols (G.take_in d.0 v) d.1 w f d.4)
+complete_from G S c (suc n) (Non x ∷ symbols) v ts w f d =
+    let e : pick G S x v (sight G ts) ≡ Some d.0 = row_picked G S c n x symbols v ts w d.0 f d.1 d.2 d.3 in
+    rw e (complete_from G S c n (d.0.symbols ++ symbols) v ts w (still_followed G S c x symbols d.0 f d.1) d.3)
+complete_from G S c (suc n) (Do a ∷ symbols) v ts w f d = complete_from G S c n symbols (G.act a v) ts w f d
+
+pub complete : {N A T V : Type 0} → Complete N A T V
+complete G S c n symbols v ts w s d = complete_from G S c n symbols v ts w (start_followed S symbols s) d
