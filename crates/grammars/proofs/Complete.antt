@@ -1,5 +1,5 @@
 -- What is derived is run to its end, where one token of sight decides; so a sentence has one value.
-use Rattle.std.proofs.Common.{◌≡◌, ℕ, zero, suc, Bool, true, false, cond, ◌==◌, List, [], ◌∷◌, ◌++◌, ◌⊎◌, inl, inr, refl, sym, ap, ◌∙◌, subst, eq-eqb, eqb-true, Option, Some, None}
+use Rattle.std.proofs.Common.{◌≡◌, ℕ, zero, suc, Bool, true, false, cond, ◌==◌, List, [], ◌∷◌, ◌++◌, ◌⊎◌, inl, inr, refl, sym, ap, ◌∙◌, subst, subst₂, eq-eqb, eqb-true, Option, Some, None}
 use Rattle.grammars.specs.Grammar.{Sym, Tok, Non, Do, allows, Row, Grammar, IsRow, Sight, sight}
 use Rattle.grammars.specs.Derivation.{Derives, Yields}
 use Rattle.grammars.specs.Sets.{Sets, same_sight, has, ahead, are_nullable, are_followed, is_ahead_within, is_decided, is_start}
@@ -80,3 +80,62 @@ complete_from G S c (suc n) (Do a ∷ symbols) v ts w f d = complete_from G S c 
 
 pub complete : {N A T V : Type 0} → Complete N A T V
 complete G S c n symbols v ts w s d = complete_from G S c n symbols v ts w (start_followed S symbols s) d
+
+-- two derivations of one sentence take the same rows
+agree : {N A T V : Type 0} (G : Grammar N A T V) (S : Sets N T) → ((x : N) → is_decided G S x ≡ true)
+    → (m n : ℕ) (symbols : List (Sym N A)) (v : V) (ts : List T) (w u : V) → IsFollowed S symbols
+    → Derives G m symbols v ts w → Derives G n symbols v ts u → w ≡ u
+agree G S c zero zero [] v ts w u f d e = sym d.1 ∙ e.1
+agree G S c zero (suc n) [] v ts w u f d e = absurd e
+agree G S c zero zero (s ∷ symbols) v ts w u f d e = absurd d
+agree G S c zero (suc n) (s ∷ symbols) v ts w u f d e = absurd d
+agree G S c (suc m) zero [] v ts w u f d e = absurd d
+agree G S c (suc m) (suc n) [] v ts w u f d e = absurd d
+agree G S c (suc m) zero (s ∷ symbols) v ts w u f d e = absurd e
+agree {N} {A} {T} {V} G S c (suc m) (suc n) (Tok k ∷ symbols) v ts w u f d e =
+    let first : e.0 ≡ d.0 = cc (d.2, e.2) in
+    let rest : e.1 ≡ d.1 = cc (d.2, e.2) in
+    agree G S c m n symbols (G.take_in d.0 v) d.1 w u f d.4 (subst₂ (λ (t : T) (l : List T). Derives G n symbols (G.take_in t v) l u) first rest e.4)
+agree {N} {A} {T} {V} G S c (suc m) (suc n) (Non x ∷ symbols) v ts w u f d e =
+    let p : pick G S x v (sight G ts) ≡ Some d.0 = row_picked G S c m x symbols v ts w d.0 f d.1 d.2 d.3 in
+    let q : pick G S x v (sight G ts) ≡ Some e.0 = row_picked G S c n x symbols v ts u e.0 f e.1 e.2 e.3 in
+    let same : e.0 ≡ d.0 = cc (p, q) in
+    agree G S c m n (d.0.symbols ++ symbols) v ts w u (still_followed G S c x symbols d.0 f d.1) d.3
+        (subst (λ (r : Row N A V). Derives G n (r.symbols ++ symbols) v ts u) same e.3)
+agree G S c (suc m) (suc n) (Do a ∷ symbols) v ts w u f d e = agree G S c m n symbols (G.act a v) ts w u f d e
+
+pub one_value : {N A T V : Type 0} → OneValue N A T V
+one_value G S c symbols v ts w u s y z = agree G S c y.0 z.0 symbols v ts w u (start_followed S symbols s) y.1 z.1
+
+nullable_parts : {N A T : Type 0} (S : Sets N T) (front symbols : List (Sym N A)) → are_nullable S (front ++ symbols) ≡ true
+    → (are_nullable S front ≡ true) × (are_nullable S symbols ≡ true)
+nullable_parts S [] symbols h = (refl, h)
+nullable_parts S (Tok k ∷ front) symbols h = absurd (cc)
+nullable_parts {N} {A} S (Non x ∷ front) symbols h =
+    let r : (are_nullable S front ≡ true) × (are_nullable S symbols ≡ true) = nullable_parts S front symbols (and_right _ _ h) in
+    (both _ _ (and_left _ _ h) r.0, r.1)
+nullable_parts S (Do a ∷ front) symbols h = nullable_parts S front symbols h
+
+not_at_end : (b : Bool) (k : ℕ) → has (cond b at_end []) (Some k) ≡ true → ⊥
+not_at_end true k h = (cc)
+not_at_end false k h = (cc)
+
+-- what derives no token is nullable
+nothing_nullable : {N A T V : Type 0} (G : Grammar N A T V) (S : Sets N T) → ((x : N) → is_decided G S x ≡ true)
+    → (n : ℕ) (symbols : List (Sym N A)) (v w : V) → Derives G n symbols v [] w → are_nullable S symbols ≡ true
+nothing_nullable G S c zero [] v w d = refl
+nothing_nullable G S c zero (s ∷ symbols) v w d = absurd d
+nothing_nullable G S c (suc n) [] v w d = absurd d
+nothing_nullable G S c (suc n) (Tok k ∷ symbols) v w d = absurd (cc (d.2))
+nothing_nullable G S c (suc n) (Non x ∷ symbols) v w d =
+    let p : are_nullable S (d.0.symbols ++ symbols) ≡ true = nothing_nullable G S c n (d.0.symbols ++ symbols) v w d.3 in
+    let q : (are_nullable S d.0.symbols ≡ true) × (are_nullable S symbols ≡ true) = nullable_parts S d.0.symbols symbols p in
+    both _ _ ((row_closed G S x d.0 (c x) d.1).nullable q.0) q.1
+nothing_nullable G S c (suc n) (Do a ∷ symbols) v w d = nothing_nullable G S c n symbols (G.act a v) w d
+
+pub begins : {N A T V : Type 0} → Begins N A T V
+begins G S c x v w =
+    (λ y. and_left _ _ (nothing_nullable G S c y.0 (Non x ∷ []) v w y.1)
+    , λ t ts y. elim (has-append (S.first x) _ _ (sight_ahead G S c y.0 (Non x ∷ []) v (t ∷ ts) w y.1)) [
+          inl q ↦ q
+        | inr q ↦ absurd (not_at_end (S.nullable x) _ q) ])
