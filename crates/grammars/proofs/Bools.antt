@@ -1,5 +1,5 @@
 -- Tests of more than one part.
-use Rattle.std.proofs.Common.{◌≡◌, ℕ, Bool, true, false, not, ◌&&◌, ◌||◌, ◌==◌, ◌⊎◌, inl, inr, refl, arith, eqb-true, eq-eqb, sym, Option, Some, None, ap, subst}
+use Rattle.std.proofs.Common.{◌≡◌, Bool, true, false, not, ◌&&◌, ◌||◌, ◌⊎◌, inl, inr, refl, eqb-true, eq-eqb, Some, None, ap, subst}
 use Rattle.grammars.specs.Grammar.{Sight}
 use Rattle.grammars.specs.Sets.{same_sight}
 

@@ -1,13 +1,13 @@
 -- What is derived is run to its end, where one token of sight decides; so a sentence has one value.
-use Rattle.std.proofs.Common.{◌≡◌, ℕ, zero, suc, Bool, true, false, cond, ◌==◌, List, [], ◌∷◌, ◌++◌, ◌⊎◌, inl, inr, refl, sym, ap, ◌∙◌, subst, subst₂, eq-eqb, eqb-true, Option, Some, None}
+use Rattle.std.proofs.Common.{◌≡◌, ℕ, zero, suc, Bool, true, false, cond, ◌==◌, List, [], ◌∷◌, ◌++◌, inl, inr, refl, sym, ap, ◌∙◌, subst, subst₂, eq-eqb, Some, None}
 use Rattle.grammars.specs.Grammar.{Sym, Tok, Non, Do, allows, Row, Grammar, IsRow, Sight, sight}
-use Rattle.grammars.specs.Derivation.{Derives, Yields}
-use Rattle.grammars.specs.Sets.{Sets, same_sight, has, ahead, are_nullable, are_followed, is_ahead_within, is_decided, is_start}
-use Rattle.grammars.specs.Run.{Outcome, Done, Stuck, Late, pick, expand, run}
+use Rattle.grammars.specs.Derivation.{Derives}
+use Rattle.grammars.specs.Sets.{Sets, has, ahead, are_nullable, are_followed, is_decided, is_start}
+use Rattle.grammars.specs.Run.{Done, pick, run}
 use Rattle.grammars.specs.Laws.{Complete, OneValue, Begins}
-use Rattle.grammars.proofs.Bools.{and_left, and_right, both, on_left, on_right, same_sight_eq, same_sight_refl}
+use Rattle.grammars.proofs.Bools.{and_left, and_right, both, on_left, same_sight_refl}
 use Rattle.grammars.proofs.Sets.{IsWithin, has-append, has_before, has_behind, split_ahead, ahead_within, is_ahead_within_lem, ahead_cases}
-use Rattle.grammars.proofs.Rows.{pick_row, pick_is_row, IsClosed, row_closed}
+use Rattle.grammars.proofs.Rows.{pick_row, IsClosed, row_closed}
 
 -- what may come behind a stack is the end
 abbrev pub at_end : List Sight
@@ -31,9 +31,11 @@ pub row_followed : {N A T : Type 0} (S : Sets N T) (behind : List Sight) (front 
     → IsWithin (ahead S at_end symbols) behind → IsFollowed S symbols → IsFollowed S (front ++ symbols)
 row_followed S behind [] symbols h i f = f
 row_followed S behind (Tok k ∷ front) symbols h i f = row_followed S behind front symbols h i f
-row_followed S behind (Non x ∷ front) symbols h i f =
-    (λ s p. is_ahead_within_lem S behind front (S.follow x) (and_left _ _ h) s
-        (ahead_within S _ behind front i s (split_ahead S at_end front symbols s p)), row_followed S behind front symbols (and_right _ _ h) i f)
+row_followed S behind (Non x ∷ front) symbols h i f = (
+  λ s p. is_ahead_within_lem S behind front (S.follow x) (and_left _ _ h) s
+      (ahead_within S _ behind front i s (split_ahead S at_end front symbols s p)),
+  row_followed S behind front symbols (and_right _ _ h) i f,
+)
 row_followed S behind (Do a ∷ front) symbols h i f = row_followed S behind front symbols h i f
 
 -- what a stack derives begins with what lies ahead of it
@@ -48,8 +50,9 @@ sight_ahead {N} {A} {T} {V} G S c (suc n) (Non x ∷ symbols) v ts w d =
     let p : has (ahead S at_end (r.symbols ++ symbols)) (sight G ts) ≡ true = sight_ahead G S c n (r.symbols ++ symbols) v ts w d.3 in
     let k : IsClosed S x r.symbols = row_closed G S x r (c x) d.1 in
     elim (ahead_cases S (ahead S at_end symbols) r.symbols (sight G ts) (split_ahead S at_end r.symbols symbols _ p)) [
-        inl q ↦ has_before (S.first x) _ _ (is_ahead_within_lem S [] r.symbols (S.first x) k.first _ q)
-      | inr q ↦ has_behind (S.first x) _ _ (rw (k.nullable q.0) q.1) ]
+      | inl q ↦ has_before (S.first x) _ _ (is_ahead_within_lem S [] r.symbols (S.first x) k.first _ q)
+      | inr q ↦ has_behind (S.first x) _ _ (rw (k.nullable q.0) q.1)
+    ]
 sight_ahead G S c (suc n) (Do a ∷ symbols) v ts w d = sight_ahead G S c n symbols (G.act a v) ts w d
 
 -- so the row of a derivation is the one that is picked
@@ -101,7 +104,7 @@ agree {N} {A} {T} {V} G S c (suc m) (suc n) (Non x ∷ symbols) v ts w u f d e =
     let q : pick G S x v (sight G ts) ≡ Some e.0 = row_picked G S c n x symbols v ts u e.0 f e.1 e.2 e.3 in
     let same : e.0 ≡ d.0 = cc (p, q) in
     agree G S c m n (d.0.symbols ++ symbols) v ts w u (still_followed G S c x symbols d.0 f d.1) d.3
-        (subst (λ (r : Row N A V). Derives G n (r.symbols ++ symbols) v ts u) same e.3)
+    (subst (λ (r : Row N A V). Derives G n (r.symbols ++ symbols) v ts u) same e.3)
 agree G S c (suc m) (suc n) (Do a ∷ symbols) v ts w u f d e = agree G S c m n symbols (G.act a v) ts w u f d e
 
 pub one_value : {N A T V : Type 0} → OneValue N A T V
@@ -134,8 +137,10 @@ nothing_nullable G S c (suc n) (Non x ∷ symbols) v w d =
 nothing_nullable G S c (suc n) (Do a ∷ symbols) v w d = nothing_nullable G S c n symbols (G.act a v) w d
 
 pub begins : {N A T V : Type 0} → Begins N A T V
-begins G S c x v w =
-    (λ y. and_left _ _ (nothing_nullable G S c y.0 (Non x ∷ []) v w y.1)
-    , λ t ts y. elim (has-append (S.first x) _ _ (sight_ahead G S c y.0 (Non x ∷ []) v (t ∷ ts) w y.1)) [
-          inl q ↦ q
-        | inr q ↦ absurd (not_at_end (S.nullable x) _ q) ])
+begins G S c x v w = (
+  λ y. and_left _ _ (nothing_nullable G S c y.0 (Non x ∷ []) v w y.1),
+  λ t ts y. elim (has-append (S.first x) _ _ (sight_ahead G S c y.0 (Non x ∷ []) v (t ∷ ts) w y.1)) [
+    | inl q ↦ q
+    | inr q ↦ absurd (not_at_end (S.nullable x) _ q)
+  ],
+)

@@ -1,5 +1,5 @@
 -- Whatever the value, symbols derive something: by exit rows.
-use Rattle.std.proofs.Common.{◌≡◌, ℕ, zero, suc, ◌+◌, ◌<◌, ◌≤◌, max, Bool, true, false, ◌&&◌, ◌||◌, ◌==◌, List, [], ◌∷◌, ◌++◌, ◌⊎◌, inl, inr, refl, sym, ap, subst, eqb-true, ltb-true, lt-ltb, nat_lt, append_assoc, arith}
+use Rattle.std.proofs.Common.{◌≡◌, ℕ, zero, suc, ◌+◌, ◌<◌, ◌≤◌, true, ◌&&◌, List, [], ◌∷◌, ◌++◌, inl, inr, refl, sym, ap, subst, eqb-true, ltb-true, lt-ltb, append_assoc, arith}
 use Rattle.grammars.specs.Grammar.{Sym, Tok, Non, Do, Guard, Always, Where, allows, Row, Grammar, IsRow}
 use Rattle.grammars.specs.Derivation.{Derives, Yields}
 use Rattle.grammars.specs.Sets.{Sets, are_below, have_specimens, have_all_specimens, is_unguarded, have_exit, is_completable}
@@ -39,14 +39,18 @@ exit_row : {N A T V : Type 0} (G : Grammar N A T V) (S : Sets N T) (n : ℕ) (ro
     → have_exit S n rows ≡ true → have_all_specimens G S rows ≡ true → HasExit G S n rows
 exit_row G S n [] h k = absurd (cc)
 exit_row {N} {A} {T} {V} G S n (r ∷ rows) h k = elim (either (is_unguarded r.guard && are_below S n r.symbols) _ h) [
-    inl q ↦ (r, inl refl, λ v. unguarded_allows r.guard v (and_left _ _ q), and_right _ _ q, and_left _ _ k)
-  | inr q ↦ let e : HasExit G S n rows = exit_row G S n rows q (and_right _ _ k) in (e.0, inr e.1, e.2, e.3, e.4) ]
+  | inl q ↦ (r, inl refl, λ v. unguarded_allows r.guard v (and_left _ _ q), and_right _ _ q, and_left _ _ k)
+  | inr q ↦ let e : HasExit G S n rows = exit_row G S n rows q (and_right _ _ k) in (e.0, inr e.1, e.2, e.3, e.4)
+]
 
 below_less : {N A T : Type 0} (S : Sets N T) (m n : ℕ) (symbols : List (Sym N A)) → m ≤ n → are_below S m symbols ≡ true → are_below S n symbols ≡ true
 below_less S m n [] l h = refl
 below_less S m n (Tok k ∷ symbols) l h = below_less S m n symbols l h
 below_less S m n (Non x ∷ symbols) l h = both _ _ (let p : S.rank x < m = ltb-true _ _ (and_left _ _ h) in lt-ltb _ _ (omega arith)) (below_less S m n symbols l (and_right _ _ h))
 below_less S m n (Do a ∷ symbols) l h = below_less S m n symbols l h
+
+lower_rank : (m n : ℕ) → m < suc n → m ≤ n
+lower_rank m n h = omega arith
 
 -- if all symbols of ranks below n are answered, so are those of ranks up to n
 one_rank : {N A T V : Type 0} (G : Grammar N A T V) (S : Sets N T) → ((x : N) → is_completable G S x ≡ true) → (n : ℕ)
@@ -58,7 +62,7 @@ one_rank {N} {A} {T} {V} G S c n lower (Tok t ∷ symbols) v h k =
     (S.specimen t ∷ a.0, a.1, (suc a.2.0, (S.specimen t, a.0, refl, eqb-true _ _ (and_left _ _ k), a.2.1)))
 one_rank {N} {A} {T} {V} G S c n lower (Non x ∷ symbols) v h k =
     let e : HasExit G S (S.rank x) (G.rows x) = exit_row G S (S.rank x) (G.rows x) (and_left _ _ (c x)) (and_right _ _ (c x)) in
-    let a : IsAnswered G e.0.symbols v = lower e.0.symbols v (below_less S (S.rank x) n e.0.symbols (let p : S.rank x < suc n = ltb-true _ _ (and_left _ _ h) in omega arith) e.3) e.4 in
+    let a : IsAnswered G e.0.symbols v = lower e.0.symbols v (below_less S (S.rank x) n e.0.symbols (lower_rank (S.rank x) n (ltb-true _ _ (and_left _ _ h))) e.3) e.4 in
     let b : IsAnswered G symbols a.1 = one_rank G S c n lower symbols a.1 (and_right _ _ h) k in
     let y : Yields G (e.0.symbols ++ symbols) v (a.0 ++ b.0) b.1 = joined G a.2.0 e.0.symbols symbols v a.1 b.1 a.0 b.0 a.2.1 b.2 in
     (a.0 ++ b.0, b.1, (suc y.0, (e.0, e.1, e.2 v, y.1)))

@@ -6,3 +6,4 @@ pub mod Complete
 pub mod Chains
 pub mod Completions
 pub mod Longest
+pub mod Toy

@@ -1,9 +1,9 @@
 -- Where a run is stuck, it has read the longest front.
-use Rattle.std.proofs.Common.{◌≡◌, ℕ, zero, suc, Bool, true, false, cond, ◌==◌, List, [], ◌∷◌, ◌++◌, ◌⊎◌, inl, inr, refl, sym, ap, ◌∙◌, subst, subst₂, eq-eqb, eqb-true, Option, Some, None}
-use Rattle.grammars.specs.Grammar.{Sym, Tok, Non, Do, allows, Row, Grammar, IsRow, Sight, sight}
+use Rattle.std.proofs.Common.{◌≡◌, ℕ, zero, suc, Bool, true, false, cond, ◌==◌, List, [], ◌∷◌, ◌++◌, refl, sym, ap, ◌∙◌, subst, subst₂, eq-eqb, eqb-true, Option, Some, None}
+use Rattle.grammars.specs.Grammar.{Sym, Tok, Non, Do, allows, Row, Grammar, IsRow, sight}
 use Rattle.grammars.specs.Derivation.{Derives, Yields}
 use Rattle.grammars.specs.Sets.{Sets, is_decided, is_completable, have_specimens}
-use Rattle.grammars.specs.Run.{Outcome, Done, Stuck, Late, pick, expand, run}
+use Rattle.grammars.specs.Run.{Stuck, pick, expand, run}
 use Rattle.grammars.specs.Laws.{Longest, IsFront, IsNoFrontAt}
 use Rattle.grammars.proofs.Bools.{and_right}
 use Rattle.grammars.proofs.Rows.{pick_is_row}
@@ -128,8 +128,8 @@ longest_from {N} {A} {T} {V} G S c m (suc n) (Non x ∷ symbols) v ts rest f k h
     step (Some r) e p rec =
         let q : IsRow r (G.rows x) × (allows r.guard v ≡ true) = pick_is_row G S x v (sight G ts) r e in
         row_longest G S c x symbols v ts rest r f e
-            (rec (r.symbols ++ symbols) (still_followed G S c x symbols r f q.0)
-                (specimens_joined G S r.symbols symbols (row_has_specimens G S (G.rows x) r (and_right _ _ (m x)) q.0) k) p)
+        (rec (r.symbols ++ symbols) (still_followed G S c x symbols r f q.0)
+        (specimens_joined G S r.symbols symbols (row_has_specimens G S (G.rows x) r (and_right _ _ (m x)) q.0) k) p)
 longest_from {N} {A} {T} {V} G S c m (suc n) (Do a ∷ symbols) v ts rest f k h =
     action_longest G a symbols v ts rest (longest_from G S c m n symbols (G.act a v) ts rest f k h)
 

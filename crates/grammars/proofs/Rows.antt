@@ -1,7 +1,7 @@
 -- Which row is picked.
-use Rattle.std.proofs.Common.{◌≡◌, ℕ, Bool, true, false, cond, not, ◌&&◌, ◌||◌, List, [], ◌∷◌, ◌++◌, ◌⊎◌, inl, inr, refl, sym, ap, ◌∙◌, subst, Option, Some, None}
-use Rattle.grammars.specs.Grammar.{Sym, Tok, Non, Do, allows, Row, Grammar, IsRow, Sight}
-use Rattle.grammars.specs.Sets.{Sets, has, ahead, are_nullable, is_ahead_within, are_followed, are_closed, are_apart, is_apart_from, are_told_apart, is_decided}
+use Rattle.std.proofs.Common.{◌≡◌, Bool, true, false, cond, ◌&&◌, List, [], ◌∷◌, inl, inr, refl, sym, ap, subst, Some}
+use Rattle.grammars.specs.Grammar.{Sym, allows, Row, Grammar, IsRow, Sight}
+use Rattle.grammars.specs.Sets.{Sets, has, ahead, are_nullable, is_ahead_within, are_followed, are_closed, is_apart_from, are_told_apart, is_decided}
 use Rattle.grammars.specs.Run.{first_row, pick}
 use Rattle.grammars.proofs.Bools.{and_left, and_right, both, implied}
 use Rattle.grammars.proofs.Sets.{are_apart_lem}
@@ -36,7 +36,7 @@ taken : {N A T V : Type 0} (S : Sets N T) (x : N) (rows : List (Row N A V)) (r :
 taken S x [] r v s h i p g = absurd i
 taken {N} {A} {T} {V} S x (q ∷ rows) r v s h (inl e) p g =
     let t : (has (ahead S (S.follow x) q.symbols) s && allows q.guard v) ≡ true =
-        subst (λ (y : Row N A V). (has (ahead S (S.follow x) y.symbols) s && allows y.guard v) ≡ true) e (both _ _ p g) in
+    subst (λ (y : Row N A V). (has (ahead S (S.follow x) y.symbols) s && allows y.guard v) ≡ true) e (both _ _ p g) in
     rw t (ap Some (sym e))
 taken S x (q ∷ rows) r v s h (inr i) p g =
     let f : has (ahead S (S.follow x) q.symbols) s ≡ false = apart_lem S x (ahead S (S.follow x) q.symbols) rows r s (and_left _ _ h) i p in
@@ -56,10 +56,10 @@ pub record IsClosed {N A T : Type 0} (S : Sets N T) (x : N) (symbols : List (Sym
 closed : {N A T V : Type 0} (S : Sets N T) (x : N) (rows : List (Row N A V)) (r : Row N A V) → are_closed S x rows ≡ true → IsRow r rows → IsClosed S x r.symbols
 closed S x [] r h i = absurd i
 closed {N} {A} {T} {V} S x (q ∷ rows) r h (inl e) = subst (λ (y : Row N A V). IsClosed S x y.symbols) (sym e) record {
-    nullable = λ p. implied _ _ (and_left _ _ (and_left _ _ (and_left _ _ h))) p;
-    first = and_right _ _ (and_left _ _ (and_left _ _ h));
-    follow = and_right _ _ (and_left _ _ h)
-  }
+  nullable = λ p. implied _ _ (and_left _ _ (and_left _ _ (and_left _ _ h))) p;
+  first = and_right _ _ (and_left _ _ (and_left _ _ h));
+  follow = and_right _ _ (and_left _ _ h);
+}
 closed S x (q ∷ rows) r h (inr i) = closed S x rows r (and_right _ _ h) i
 
 pub row_closed : {N A T V : Type 0} (G : Grammar N A T V) (S : Sets N T) (x : N) (r : Row N A V) → is_decided G S x ≡ true → IsRow r (G.rows x) → IsClosed S x r.symbols

@@ -1,5 +1,5 @@
 -- What the tests of sets mean.
-use Rattle.std.proofs.Common.{◌≡◌, ℕ, Bool, true, false, cond, not, ◌&&◌, ◌||◌, ◌==◌, List, [], ◌∷◌, ◌++◌, ◌⊎◌, inl, inr, refl, sym, ap, ◌∙◌, subst, append_assoc, Option, Some, None}
+use Rattle.std.proofs.Common.{◌≡◌, ℕ, Bool, true, false, cond, List, [], ◌∷◌, ◌++◌, ◌⊎◌, inl, inr, refl, ap, subst, Some}
 use Rattle.grammars.specs.Grammar.{Sym, Tok, Non, Do, Sight}
 use Rattle.grammars.specs.Sets.{Sets, same_sight, has, skip_to, is_within, are_apart, are_nullable, ahead, is_ahead_within}
 use Rattle.grammars.proofs.Bools.{and_left, and_right, both, either, on_left, on_right, implied, not_false, same_sight_eq, same_sight_flip}
@@ -25,14 +25,16 @@ is_within_lem [] those h s p = (cc)
 is_within_lem (a ∷ these) those h s p =
     let found : (has those a ≡ true) × (left : List Sight) × (is_within these left ≡ true) × IsWithin left those = skipped a (is_within these) those h in
     elim (either (same_sight a s) (has these s) p) [
-        inl q ↦ subst (λ (x : Sight). has those x ≡ true) (same_sight_eq a s q) found.0
-      | inr q ↦ found.3 s (is_within_lem these found.1 found.2 s q) ]
+      | inl q ↦ subst (λ (x : Sight). has those x ≡ true) (same_sight_eq a s q) found.0
+      | inr q ↦ found.3 s (is_within_lem these found.1 found.2 s q)
+    ]
 
 pub has-append : (these those : List Sight) (s : Sight) → has (these ++ those) s ≡ true → (has these s ≡ true) ⊎ (has those s ≡ true)
 has-append [] those s h = inr h
 has-append (a ∷ these) those s h = elim (either (same_sight a s) (has (these ++ those) s) h) [
-    inl q ↦ inl (on_left _ _ q)
-  | inr q ↦ elim (has-append these those s q) [ inl r ↦ inl (on_right _ _ r) | inr r ↦ inr r ] ]
+  | inl q ↦ inl (on_left _ _ q)
+  | inr q ↦ elim (has-append these those s q) [ inl r ↦ inl (on_right _ _ r) | inr r ↦ inr r ]
+]
 
 pub has_before : (these those : List Sight) (s : Sight) → has these s ≡ true → has (these ++ those) s ≡ true
 has_before [] those s h = (cc)
@@ -45,8 +47,9 @@ has_behind (a ∷ these) those s h = on_right _ _ (has_behind these those s h)
 pub are_apart_lem : (these those : List Sight) (s : Sight) → are_apart these those ≡ true → has these s ≡ true → has those s ≡ false
 are_apart_lem [] those s h p = (cc)
 are_apart_lem (a ∷ these) those s h p = elim (either (same_sight a s) (has these s) p) [
-    inl q ↦ subst (λ (x : Sight). has those x ≡ false) (same_sight_eq a s q) (not_false _ (and_left _ _ h))
-  | inr q ↦ are_apart_lem these those s (and_right _ _ h) q ]
+  | inl q ↦ subst (λ (x : Sight). has those x ≡ false) (same_sight_eq a s q) (not_false _ (and_left _ _ h))
+  | inr q ↦ are_apart_lem these those s (and_right _ _ h) q
+]
 
 -- what lies ahead of symbols that stand before others
 pub ahead-append : {N A T : Type 0} (S : Sets N T) (behind : List Sight) (front symbols : List (Sym N A))
@@ -69,8 +72,9 @@ pub ahead_within : {N A T : Type 0} (S : Sets N T) (behind more : List Sight) (s
 ahead_within S behind more [] h s p = h s p
 ahead_within S behind more (Tok k ∷ symbols) h s p = p
 ahead_within S behind more (Non x ∷ symbols) h s p = elim (has-append (S.first x) _ s p) [
-    inl q ↦ has_before (S.first x) _ s q
-  | inr q ↦ has_behind (S.first x) _ s (cond_within (S.nullable x) _ _ (ahead_within S behind more symbols h) s q) ]
+  | inl q ↦ has_before (S.first x) _ s q
+  | inr q ↦ has_behind (S.first x) _ s (cond_within (S.nullable x) _ _ (ahead_within S behind more symbols h) s q)
+]
 ahead_within S behind more (Do a ∷ symbols) h s p = ahead_within S behind more symbols h s p
 
 has_only : (k : ℕ) (s : Sight) (sights : List Sight) → has (Some k ∷ []) s ≡ true → has sights (Some k) ≡ true → has sights s ≡ true
@@ -85,9 +89,10 @@ pub is_ahead_within_lem : {N A T : Type 0} (S : Sets N T) (behind : List Sight) 
 is_ahead_within_lem S behind [] sights h s p = is_within_lem behind sights h s p
 is_ahead_within_lem S behind (Tok k ∷ symbols) sights h s p = has_only k s sights p h
 is_ahead_within_lem S behind (Non x ∷ symbols) sights h s p = elim (has-append (S.first x) _ s p) [
-    inl q ↦ is_within_lem (S.first x) sights (and_left _ _ h) s q
+  | inl q ↦ is_within_lem (S.first x) sights (and_left _ _ h) s q
   | inr q ↦ let r : (S.nullable x ≡ true) × (has (ahead S behind symbols) s ≡ true) = in_cond (S.nullable x) _ s q in
-      is_ahead_within_lem S behind symbols sights (implied _ _ (and_right _ _ h) r.0) s r.1 ]
+      is_ahead_within_lem S behind symbols sights (implied _ _ (and_right _ _ h) r.0) s r.1
+]
 is_ahead_within_lem S behind (Do a ∷ symbols) sights h s p = is_ahead_within_lem S behind symbols sights h s p
 
 -- what lies ahead lies ahead with nothing behind, or behind symbols that may derive nothing
@@ -96,9 +101,11 @@ pub ahead_cases : {N A T : Type 0} (S : Sets N T) (behind : List Sight) (symbols
 ahead_cases S behind [] s h = inr (refl, h)
 ahead_cases S behind (Tok k ∷ symbols) s h = inl h
 ahead_cases S behind (Non x ∷ symbols) s h = elim (has-append (S.first x) _ s h) [
-    inl q ↦ inl (has_before (S.first x) _ s q)
+  | inl q ↦ inl (has_before (S.first x) _ s q)
   | inr q ↦ let r : (S.nullable x ≡ true) × (has (ahead S behind symbols) s ≡ true) = in_cond (S.nullable x) _ s q in
       elim (ahead_cases S behind symbols s r.1) [
-          inl a ↦ inl (has_behind (S.first x) _ s (rw r.0 a))
-        | inr b ↦ inr (both _ _ r.0 b.0, b.1) ] ]
+        | inl a ↦ inl (has_behind (S.first x) _ s (rw r.0 a))
+        | inr b ↦ inr (both _ _ r.0 b.0, b.1)
+      ]
+]
 ahead_cases S behind (Do a ∷ symbols) s h = ahead_cases S behind symbols s h

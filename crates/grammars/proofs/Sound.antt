@@ -1,9 +1,8 @@
 -- What is run to its end is derived.
 use Rattle.std.proofs.Common.{◌≡◌, ℕ, zero, suc, Bool, true, false, cond, ◌==◌, List, [], ◌∷◌, ◌++◌, refl, eqb-true, Option, Some, None}
 use Rattle.grammars.specs.Grammar.{Sym, Tok, Non, Do, allows, Row, Grammar, IsRow, sight}
-use Rattle.grammars.specs.Derivation.{Derives, Yields}
-use Rattle.grammars.specs.Sets.{Sets}
-use Rattle.grammars.specs.Run.{Outcome, Done, Stuck, Late, pick, expand, run}
+use Rattle.grammars.specs.Derivation.{Yields}
+use Rattle.grammars.specs.Run.{Done, Stuck, pick, expand, run}
 use Rattle.grammars.specs.Laws.{Sound}
 use Rattle.grammars.proofs.Rows.{pick_is_row}
 

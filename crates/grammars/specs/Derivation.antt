@@ -1,6 +1,6 @@
 -- Sentences and derivations.
-use Rattle.std.specs.Prelude.{◌≡◌, ℕ, zero, suc, Bool, true, List, [], ◌∷◌, ◌++◌}
-use Rattle.grammars.specs.Grammar.{Sym, Tok, Non, Do, Guard, allows, Row, Grammar, IsRow}
+use Rattle.std.specs.Prelude.{◌≡◌, ℕ, zero, suc, true, List, [], ◌∷◌, ◌++◌}
+use Rattle.grammars.specs.Grammar.{Sym, Tok, Non, Do, allows, Row, Grammar, IsRow}
 
 -- In n steps these symbols derive just these tokens, and lead from the value v to the value w. It is the leftmost
 -- derivation: the first symbol is a token that is read, an action that is done, or a nonterminal that gives way to any

@@ -1,9 +1,9 @@
 -- What holds of every grammar as data.
-use Rattle.std.specs.Prelude.{◌≡◌, ℕ, Bool, true, List, [], ◌∷◌, ◌++◌, ◌⊎◌, Option, Some, None}
-use Rattle.grammars.specs.Grammar.{Sym, Tok, Non, Do, Grammar, Sight, sight}
-use Rattle.grammars.specs.Derivation.{Derives, Yields, Chain, AreKept}
+use Rattle.std.specs.Prelude.{◌≡◌, ℕ, true, List, [], ◌∷◌, ◌++◌, Some}
+use Rattle.grammars.specs.Grammar.{Sym, Non, Grammar, sight}
+use Rattle.grammars.specs.Derivation.{Derives, Yields}
 use Rattle.grammars.specs.Sets.{Sets, has, is_decided, is_start, is_completable, have_specimens}
-use Rattle.grammars.specs.Run.{Outcome, Done, Stuck, Late, run}
+use Rattle.grammars.specs.Run.{Done, Stuck, run}
 
 -- what is run to its end is derived
 abbrev pub Sound : (N A T V : Type 0) → Type 0

@@ -1,5 +1,5 @@
 -- The run with one token of sight: a stack of symbols, and no way back.
-use Rattle.std.specs.Prelude.{ℕ, zero, suc, Bool, true, false, cond, ◌&&◌, ◌==◌, List, [], ◌∷◌, ◌++◌, Option, Some, None}
+use Rattle.std.specs.Prelude.{ℕ, zero, suc, Bool, cond, ◌&&◌, ◌==◌, List, [], ◌∷◌, ◌++◌, Option, Some, None}
 use Rattle.grammars.specs.Grammar.{Sym, Tok, Non, Do, allows, Row, Grammar, Sight, sight}
 use Rattle.grammars.specs.Sets.{Sets, has, ahead}
 

@@ -1,6 +1,6 @@
 -- The sets by which one token of sight decides (nullable, first and follow sets), and tests of them that compute.
 -- A set is a list of sights in rising order: with the test `is_within`, one pass tells that one set lies in another.
-use Rattle.std.specs.Prelude.{◌≡◌, ℕ, zero, suc, Bool, true, false, cond, not, ◌&&◌, ◌||◌, ◌==◌, nat_lt, List, [], ◌∷◌, ◌++◌, Option, Some, None}
+use Rattle.std.specs.Prelude.{ℕ, Bool, true, false, cond, not, ◌&&◌, ◌||◌, ◌==◌, nat_lt, List, [], ◌∷◌, ◌++◌, Some, None}
 use Rattle.grammars.specs.Grammar.{Sym, Tok, Non, Do, Guard, Always, Where, Row, Grammar, Sight}
 
 pub record Sets (N T : Type 0) : Type 0 where
