@@ -1,0 +1,5 @@
+pub mod OneResult
+pub mod Simulation
+pub mod Existence
+pub mod Moments
+pub mod FiniteMaps

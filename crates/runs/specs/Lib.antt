@@ -1,0 +1,5 @@
+pub mod Run
+pub mod Moment
+pub mod FiniteMap
+pub mod Laws
+pub mod Number
