@@ -1,3 +1,4 @@
+pub mod Steps
 pub mod Bools
 pub mod Sets
 pub mod Rows

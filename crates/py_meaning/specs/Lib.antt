@@ -7,3 +7,4 @@ pub mod Value
 pub mod Program
 pub mod Machine
 pub mod Binding
+pub mod Table
