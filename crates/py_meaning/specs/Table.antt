@@ -204,7 +204,7 @@ OneTree = (one other : Body) (ts : List Token) → IsBody one ts → IsBody othe
 
 -- where the run comes to its end, it has built the tree
 abbrev pub RunBuildsTree : Type 0
-RunBuildsTree = (n : ℕ) (ts : List Token) (v : Built) → run table sets n goal start ts ≡ Done v → IsBody v.body ts
+RunBuildsTree = (n : ℕ) (ts : List Token) (v : Built) → run table sets n goal start ts ≡ Done v → (v ≡ finished v.body) × IsBody v.body ts
 
 -- where it is stuck, there is none
 abbrev pub StuckHasNoTree : Type 0

@@ -1,0 +1,3 @@
+pub mod TableSets
+pub mod SpellingDerived
+pub mod TableSpelling

@@ -1,0 +1,1 @@
+-- What the table derives is spelt so.
