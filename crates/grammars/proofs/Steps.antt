@@ -1,7 +1,7 @@
 -- Derivations, step by step.
-use Rattle.std.proofs.Common.{◌≡◌, ℕ, zero, suc, Bool, true, List, [], ◌∷◌, ◌++◌, refl}
+use Rattle.std.proofs.Common.{◌≡◌, zero, suc, true, List, [], ◌∷◌, ◌++◌, refl}
 use Rattle.grammars.specs.Grammar.{Sym, Tok, Non, Do, allows, Row, Grammar, IsRow}
-use Rattle.grammars.specs.Derivation.{Derives, Yields}
+use Rattle.grammars.specs.Derivation.{Yields}
 
 pub by_nothing : {N A T V : Type 0} (G : Grammar N A T V) (v : V) → Yields {A = A} G [] v [] v
 by_nothing G v = (zero, (refl, refl))

@@ -1,3 +1,5 @@
 pub mod TableSets
 pub mod SpellingDerived
 pub mod TableSpelling
+pub mod TableLaws
+pub mod TableVectors

@@ -1,7 +1,7 @@
 -- One token of sight decides in the table, and each nonterminal derives something.
 use Rattle.std.proofs.Common.{◌≡◌, true, refl}
 use Rattle.grammars.specs.Sets.{is_decided, is_start, is_completable, have_specimens}
-use Rattle.py_meaning.specs.Table.{Nonterminal, Statements, Statement, Sum, SumTail, Term, TermTail, Item, Action, table, sets, goal}
+use Rattle.py_meaning.specs.Table.{Nonterminal, Statements, table, sets, goal}
 
 pub decided : (x : Nonterminal) → is_decided table sets x ≡ true
 decided Statements = refl

@@ -1,12 +1,12 @@
 -- The grammar as a table: rows of symbols for each nonterminal, actions that build the tree, and the sets by which one
 -- token of sight decides. Grammar.antt says what a module is; that the table says the same is proved.
-use Rattle.std.specs.Prelude.{◌≡◌, ℕ, Bool, true, false, ◌==◌, cond, List, [], ◌∷◌, Option, Some, None, ◌↔◌}
+use Rattle.std.specs.Prelude.{◌≡◌, ℕ, Bool, true, false, ◌==◌, cond, List, [], ◌∷◌, Some, None, ◌↔◌}
 use Rattle.grammars.specs.Grammar.{Sym, Tok, Non, Do, Always, Row, Grammar, Sight}
 use Rattle.grammars.specs.Derivation.{Yields}
 use Rattle.grammars.specs.Sets.{Sets}
 use Rattle.grammars.specs.Run.{Done, Stuck, run}
-use Rattle.py_meaning.specs.Token.{Place, Mark, Equals, Plus, Minus, Star, Open, Close, Kind, TName, TNumber, TPrint, TMark, TNewline, Token, At}
-use Rattle.py_meaning.specs.Tree.{Unary, Negative, Binary, Add, Subtract, Multiply, Expr, EName, ENumber, EUnary, EBinary, Stmt, SAssign, SPrint, Body, none, more}
+use Rattle.py_meaning.specs.Token.{Mark, Equals, Plus, Minus, Star, Open, Close, Kind, TName, TNumber, TPrint, TMark, TNewline, Token, At}
+use Rattle.py_meaning.specs.Tree.{Negative, Binary, Add, Subtract, Multiply, Expr, EName, ENumber, EUnary, EBinary, Stmt, SAssign, SPrint, Body, none, more}
 use Rattle.py_meaning.specs.Grammar.{IsBody}
 
 pub data Nonterminal : Type 0 where
