@@ -3,3 +3,4 @@ pub mod SpellingDerived
 pub mod TableSpelling
 pub mod TableLaws
 pub mod TableVectors
+mod LexerVectors

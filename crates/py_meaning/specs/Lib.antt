@@ -3,6 +3,7 @@ pub mod Token
 pub mod Tree
 pub mod Grammar
 pub mod Rules
+pub mod Lexer
 pub mod Value
 pub mod Program
 pub mod Machine

@@ -1,0 +1,171 @@
+-- The tokens of a module's text (Python reference, "Lexical analysis"), as far as the language has them today. A text
+-- with anything else in it has none: tabs, comments, backslashes, texts in quotes, indentation, and so on.
+use Rattle.std.specs.Prelude.{ℕ, zero, suc, ◌+◌, ◌-◌, ◌*◌, Bool, true, false, not, ◌&&◌, ◌||◌, if◌then◌else◌, ◌==◌, nat_le, nat_lt, List, [], ◌∷◌, length, Option, Some, None}
+use Rattle.std.specs.Char.{is_ascii_digit, is_ascii_alphanumeric}
+use Rattle.std.specs.List.{take_while, list_all, list_any}
+use Rattle.std.specs.Option.{option_map, option_and_then}
+use lib.Chars.{codes}
+use Rattle.py_meaning.specs.Name.{same_name}
+use Rattle.py_meaning.specs.Token.{Place, Mark, Equals, Plus, Minus, Star, Open, Close, Kind, TName, TNumber, TPrint, TMark, TNewline, Token, At}
+
+abbrev pub Text : Type 0
+Text = List ℕ
+
+abbrev pub line_end : ℕ
+line_end = 10
+
+abbrev pub space : ℕ
+space = 32
+
+abbrev pub opening : ℕ
+opening = 40
+
+abbrev pub closing : ℕ
+closing = 41
+
+-- whether a text begins with a front
+abbrev pub begins_with : Text → Text → Bool
+begins_with [] z = true
+begins_with (a ∷ front) [] = false
+begins_with (a ∷ front) (b ∷ z) = a == b && begins_with front z
+
+-- ---- lines ("Logical lines", "Implicit line joining")
+
+-- one fewer than some, if there are any
+abbrev pub less : ℕ → Option ℕ
+less zero = None
+less (suc d) = Some d
+
+-- how many parentheses are open behind a byte, where d were open before it
+abbrev pub depth_after : ℕ → ℕ → Option ℕ
+depth_after d b = if b == opening then Some (suc d) else (if b == closing then less d else Some d)
+
+-- whether a byte ends its logical line, where d parentheses are open
+abbrev pub is_end : ℕ → ℕ → Bool
+is_end zero b = b == line_end
+is_end (suc d) b = false
+
+-- puts a byte in front of the first of some lines
+abbrev pub put : ℕ → List Text → List Text
+put b [] = (b ∷ []) ∷ []
+put b (l ∷ ls) = (b ∷ l) ∷ ls
+
+-- The logical lines of a text, where d parentheses are open already. A line end within parentheses is part of its line,
+-- and the one that ends a line is part of none. None where a parenthesis lacks its partner.
+abbrev pub lines_of : ℕ → Text → Option (List Text)
+lines_of zero [] = Some []
+lines_of (suc d) [] = None
+lines_of d (b ∷ z) =
+    if is_end d b then option_map (λ ls. [] ∷ ls) (lines_of d z)
+    else option_and_then (λ e. option_map (put b) (lines_of e z)) (depth_after d b)
+
+-- ---- tokens, each a function of the bytes from its first one on: what it is, and its length
+
+abbrev pub is_name_part : ℕ → Bool
+is_name_part b = is_ascii_alphanumeric b || b == 95
+
+-- names ("Identifiers and keywords"): keywords and `__name__` have no token yet
+abbrev pub barred : List Text
+barred =
+    codes "False" ∷ codes "None" ∷ codes "True" ∷ codes "and" ∷ codes "as" ∷ codes "assert" ∷ codes "async" ∷ codes "await" ∷ codes "break"
+    ∷ codes "class" ∷ codes "continue" ∷ codes "def" ∷ codes "del" ∷ codes "elif" ∷ codes "else" ∷ codes "except" ∷ codes "finally" ∷ codes "for"
+    ∷ codes "from" ∷ codes "global" ∷ codes "if" ∷ codes "import" ∷ codes "in" ∷ codes "is" ∷ codes "lambda" ∷ codes "nonlocal" ∷ codes "not"
+    ∷ codes "or" ∷ codes "pass" ∷ codes "raise" ∷ codes "return" ∷ codes "try" ∷ codes "while" ∷ codes "with" ∷ codes "yield"
+    ∷ codes "__name__" ∷ []
+
+-- the most bytes of a name
+abbrev pub longest_name : ℕ
+longest_name = 1000
+
+abbrev pub name : Text → Option (Kind × ℕ)
+name w =
+    if nat_lt longest_name (length w) || list_any (same_name w) barred then None
+    else Some (if same_name w (codes "print") then TPrint else TName w, length w)
+
+-- numbers ("Integer literals"): a leading 0 stands in a number of zeros alone
+abbrev pub value_from : ℕ → Text → ℕ
+value_from v [] = v
+value_from v (b ∷ w) = value_from (v * 10 + (b - 48)) w
+
+abbrev pub largest_number : ℕ
+largest_number = 2147483647
+
+abbrev pub is_number : Text → Bool
+is_number w = list_all is_ascii_digit w && (not (begins_with (codes "0") w) || list_all (λ b. b == 48) w) && nat_le (value_from 0 w) largest_number
+
+abbrev pub number : Text → Option (Kind × ℕ)
+number w = if is_number w then Some (TNumber (value_from 0 w), length w) else None
+
+-- operators and delimiters, longer ones first, each with its mark if it has a token yet
+abbrev pub operators : List (Text × Option Mark)
+operators =
+    (codes "**=", None) ∷ (codes "//=", None) ∷ (codes "<<=", None) ∷ (codes ">>=", None) ∷ (codes "...", None)
+    ∷ (codes "**", None) ∷ (codes "//", None) ∷ (codes "<<", None) ∷ (codes ">>", None) ∷ (codes "<=", None) ∷ (codes ">=", None)
+    ∷ (codes "==", None) ∷ (codes "!=", None) ∷ (codes "->", None) ∷ (codes "+=", None) ∷ (codes "-=", None) ∷ (codes "*=", None)
+    ∷ (codes "/=", None) ∷ (codes "%=", None) ∷ (codes "@=", None) ∷ (codes "&=", None) ∷ (codes "|=", None) ∷ (codes "^=", None)
+    ∷ (codes ":=", None)
+    ∷ (codes "+", Some Plus) ∷ (codes "-", Some Minus) ∷ (codes "*", Some Star) ∷ (codes "/", None) ∷ (codes "%", None)
+    ∷ (codes "@", None) ∷ (codes "&", None) ∷ (codes "|", None) ∷ (codes "^", None) ∷ (codes "~", None) ∷ (codes "<", None)
+    ∷ (codes ">", None) ∷ (codes "(", Some Open) ∷ (codes ")", Some Close) ∷ (codes "[", None) ∷ (codes "]", None)
+    ∷ (codes "{", None) ∷ (codes "}", None) ∷ (codes ",", None) ∷ (codes ":", None) ∷ (codes ".", None) ∷ (codes ";", None)
+    ∷ (codes "=", Some Equals) ∷ []
+
+-- the mark of the first of some operators that a text begins with
+abbrev pub mark_at : List (Text × Option Mark) → Text → Option Mark
+mark_at [] z = None
+mark_at (row ∷ rows) z = if begins_with row.0 z then row.1 else mark_at rows z
+
+-- The token at the front: the longest run of letters, digits and `_`, which must be a number where it begins with a digit
+-- and a name otherwise, or the longest operator.
+abbrev pub token : Text → Option (Kind × ℕ)
+token [] = None
+token (b ∷ z) =
+    let run = take_while is_name_part (b ∷ z) in
+    if is_ascii_digit b then number run
+    else (if is_name_part b then name run else option_map (λ mark. (TMark mark, 1)) (mark_at operators (b ∷ z)))
+
+-- ---- from lines to tokens
+
+abbrev pub place : ℕ → ℕ → Place
+place n c = record { «module» = 0; line = n; column = c }
+
+-- puts a token at line n and column c in front of others
+abbrev pub with_token : ℕ → ℕ → Kind → Option (List Token) → Option (List Token)
+with_token n c k = option_map (λ ts. At (place n c) k ∷ ts)
+
+-- a token, if there is one, and what comes behind its first byte, given how many more bytes it has
+abbrev pub begin : ℕ → ℕ → Option (Kind × ℕ) → (ℕ → Option (List Token)) → Option (List Token)
+begin n c None behind = None
+begin n c (Some t) behind = with_token n c t.0 (behind (t.1 - 1))
+
+-- The tokens of a logical line from line n and column c on, where so many bytes are left of a token that began before,
+-- and then those of the lines after it, given the number of the first of these.
+abbrev pub cut : ℕ → ℕ → ℕ → (ℕ → Option (List Token)) → Text → Option (List Token)
+cut n c left after [] = with_token n c TNewline (after (n + 1))
+cut n c (suc left) after (b ∷ z) = cut n (c + 1) left after z
+cut n c zero after (b ∷ z) =
+    if b == space then cut n (c + 1) 0 after z
+    else (if b == line_end then cut (n + 1) 1 0 after z else begin n c (token (b ∷ z)) (λ left. cut n (c + 1) left after z))
+
+-- "Blank lines"
+abbrev pub is_blank : Text → Bool
+is_blank = list_all (λ b. b == space)
+
+-- the same of a whole logical line: a blank one has no tokens, and an indented one is outside the language ("Indentation")
+abbrev pub line : ℕ → (ℕ → Option (List Token)) → Text → Option (List Token)
+line n after l = if is_blank l then after (n + 1) else (if begins_with (space ∷ []) l then None else cut n 1 0 after l)
+
+-- the tokens of logical lines, the first of which begins in line n of the text
+abbrev pub emit : ℕ → List Text → Option (List Token)
+emit n [] = Some []
+emit n (l ∷ ls) = line n (λ m. emit m ls) l
+
+-- whether a text is empty or ends by a line end
+abbrev pub is_ended : Text → Bool
+is_ended [] = true
+is_ended (b ∷ []) = b == line_end
+is_ended (b ∷ (c ∷ z)) = is_ended (c ∷ z)
+
+-- the tokens of a module's text, where it lies in the language
+unfoldable pub tokens_of : Text → Option (List Token)
+tokens_of text = if is_ended text then option_and_then (emit 1) (lines_of 0 text) else None

@@ -1,0 +1,2 @@
+pub mod PlainTokens
+pub mod PlainTrees

@@ -1,0 +1,5 @@
+//! Reads a Python module: its tokens, its tree, and the rule on reads.
+#![tactic(auto)]
+
+pub mod token;
+pub mod tree;
