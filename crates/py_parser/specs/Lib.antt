@@ -1,2 +1,3 @@
 pub mod PlainTokens
 pub mod PlainTrees
+pub mod PlainTable

@@ -1,5 +1,6 @@
 //! Reads a Python module: its tokens, its tree, and the rule on reads.
 #![tactic(auto)]
 
+pub mod table;
 pub mod token;
 pub mod tree;
