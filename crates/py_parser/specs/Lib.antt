@@ -1,3 +1,5 @@
 pub mod PlainTokens
 pub mod PlainTrees
 pub mod PlainTable
+pub mod Bounded
+pub mod PlainKept

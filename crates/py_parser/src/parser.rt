@@ -1,0 +1,112 @@
+//! Tokens become a tree: one loop over a stack of symbols, with one token of sight.
+
+ghost use Rattle.std.specs.Prelude.{◌≡◌, [], ◌∷◌, ◌++◌, reverse, length, IfOk, OnOk, MatchOption};
+ghost use Rattle.py_meaning.specs.Table.{operator_of};
+ghost use Rattle.py_parser.specs.PlainTokens.{plain_token, plain_tokens, plain_place, plain_kind};
+ghost use Rattle.py_parser.specs.PlainTrees.{plain_expr, plain, plain_binary};
+ghost use Rattle.py_parser.specs.PlainTable.{plain_symbols, plain_action};
+ghost use Rattle.py_parser.specs.PlainKept.{plain_operand, plain_kept, plain_next, stack_of};
+ghost use Rattle.py_parser.specs.Bounded.{negated, joined, leaf, negate, join, assign, print, perform, one_step, keep};
+
+use crate::table::{Action, Kind, Nonterminal, Symbol, is_same, kind_of, row_at};
+use crate::token::{Mark, Place, Token, TokenKind};
+use crate::tree::{BinaryOperator, Expr, Module, Stmt, UnaryOperator};
+use sqlite_items::{Boxed, Items};
+use std::alloc::{AllocError, Global};
+
+/// The most ancestors that a node may have.
+const MOST_ANCESTORS: u32 = 100;
+
+/// An expression that stands in no statement yet.
+#[derive(Debug, Drop)]
+enum Operand {
+    /// With its height.
+    Known(u32, Expr),
+    /// It is higher than a node may be deep: it is not built.
+    TooHigh,
+}
+
+/// What has been built, and what has been read for what comes.
+#[derive(Debug, Drop)]
+struct Kept {
+    tokens: Vec<Token>,
+    operands: Vec<Operand>,
+    /// Nothing where a statement nests too much.
+    body: Option<Module>,
+}
+
+/// What a step has come to.
+#[derive(Debug, Drop)]
+enum Next<'a> {
+    Goes(&'a [Token]),
+    Done,
+    Stuck,
+}
+
+fn copied(token: &Token) -> Result<Token, AllocError>
+    ensures { IfOk result (λ t. plain_token t ≡ plain_token token.now) }
+{
+    let kind = match &token.kind {
+        TokenKind::Name(name) => TokenKind::Name(name.clone()?),
+        TokenKind::Number(value) => TokenKind::Number(*value),
+        TokenKind::Print => TokenKind::Print,
+        TokenKind::Mark(mark) => TokenKind::Mark(*mark),
+        TokenKind::Newline => TokenKind::Newline,
+    };
+    Ok(Token {
+        place: token.place,
+        kind,
+    })
+}
+
+#[tactic(auto, using(crate::specs::PlainTrees::plains))]
+fn negated_operand(alloc: Global, place: Place, operand: Operand) -> Result<Operand, AllocError>
+    ensures { IfOk result (λ o. plain_operand o ≡ negated (plain_place place) (plain_operand operand)) }
+{
+    match operand {
+        Operand::Known(height, expr) => {
+            if height < MOST_ANCESTORS {
+                let inner = Boxed::new(alloc, expr)?;
+                Ok(Operand::Known(height + 1, Expr::Unary(place, UnaryOperator::Negative, inner)))
+            } else {
+                Ok(Operand::TooHigh)
+            }
+        }
+        Operand::TooHigh => Ok(Operand::TooHigh),
+    }
+}
+
+fn operator(kind: &TokenKind) -> BinaryOperator
+    ensures { plain_binary result ≡ operator_of (plain_kind kind.now) }
+{
+    match kind {
+        TokenKind::Mark(Mark::Minus) => BinaryOperator::Subtract,
+        TokenKind::Mark(Mark::Star) => BinaryOperator::Multiply,
+        _ => BinaryOperator::Add,
+    }
+}
+
+#[tactic(auto, using(crate::specs::PlainTrees::plains))]
+fn joined_operands(
+    alloc: Global,
+    place: Place,
+    operator: BinaryOperator,
+    left: Operand,
+    right: Operand,
+) -> Result<Operand, AllocError>
+    ensures { IfOk result (λ o. plain_operand o ≡ joined (plain_place place) (plain_binary operator) (plain_operand left) (plain_operand right)) }
+{
+    match (left, right) {
+        (Operand::Known(one, a), Operand::Known(other, b)) => {
+            let height = if one < other { other } else { one };
+            if height < MOST_ANCESTORS {
+                let a = Boxed::new(alloc, a)?;
+                let b = Boxed::new(alloc, b)?;
+                Ok(Operand::Known(height + 1, Expr::Binary(place, operator, a, b)))
+            } else {
+                Ok(Operand::TooHigh)
+            }
+        }
+        _ => Ok(Operand::TooHigh),
+    }
+}
