@@ -1,6 +1,7 @@
 //! Tokens become a tree: one loop over a stack of symbols, with one token of sight.
 
 ghost use Rattle.std.specs.Prelude.{◌≡◌, [], ◌∷◌, ◌++◌, reverse, length, IfOk, OnOk, MatchOption};
+ghost use Rattle.py_meaning.specs.Table.{Leaf, Negate, Join, Assign, Print};
 ghost use Rattle.py_meaning.specs.Table.{operator_of};
 ghost use Rattle.py_parser.specs.PlainTokens.{plain_token, plain_tokens, plain_place, plain_kind};
 ghost use Rattle.py_parser.specs.PlainTrees.{plain_expr, plain, plain_binary};
@@ -109,4 +110,31 @@ fn joined_operands(
         }
         _ => Ok(Operand::TooHigh),
     }
+}
+
+#[tactic(auto, using(crate::proofs::Stacks::stacks, crate::specs::PlainTrees::plains))]
+fn leaf_kept(kept: &mut Kept) -> Result<(), AllocError>
+    ensures { OnOk result (plain_kept kept.new ≡ perform Leaf (plain_kept kept.old)) }
+{
+    let Some(Token { place, kind }) = kept.tokens.pop() else {
+        return Err(AllocError);
+    };
+    match kind {
+        TokenKind::Name(name) => kept.operands.push(Operand::Known(0, Expr::Name(place, name)))?,
+        TokenKind::Number(value) => kept.operands.push(Operand::Known(0, Expr::Number(place, value)))?,
+        _ => return Err(AllocError),
+    }
+    Ok(())
+}
+
+#[tactic(auto, using(crate::proofs::Stacks::stacks))]
+fn negation_kept(alloc: Global, kept: &mut Kept) -> Result<(), AllocError>
+    ensures { OnOk result (plain_kept kept.new ≡ perform Negate (plain_kept kept.old)) }
+{
+    let (Some(token), Some(operand)) = (kept.tokens.pop(), kept.operands.pop()) else {
+        return Err(AllocError);
+    };
+    let operand = negated_operand(alloc, token.place, operand)?;
+    kept.operands.push(operand)?;
+    Ok(())
 }

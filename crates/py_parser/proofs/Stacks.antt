@@ -1,0 +1,41 @@
+-- Stacks whose top is at the end.
+use Rattle.std.proofs.Common.{◌≡◌, ℕ, List, [], ◌∷◌, ◌++◌, map, reverse, refl, sym, ap, ◌∙◌, append_assoc}
+use Rattle.std.proofs.lemmas.List.{reverse-append}
+use Rattle.py_meaning.specs.Token as meaning
+use Rattle.py_meaning.specs.Table as table
+use Rattle.py_parser.specs.Bounded as bounded
+use Rattle.py_parser.specs.PlainTokens.{plain_token, plain_tokens}
+use Rattle.py_parser.specs.PlainTable.{plain_symbol, plain_symbols}
+use Rattle.py_parser.specs.PlainKept.{plain_operand, tokens_of, operands_of, stack_of}
+use Rattle.py_parser.specs.declared.table.Symbol.{Symbol}
+use Rattle.py_parser.specs.declared.token.Token.{Token}
+use Rattle.py_parser.specs.declared.parser.Operand.{Operand}
+
+reverse_push : {A : Type 0} (xs : List A) (x : A) → reverse (xs ++ x ∷ []) ≡ x ∷ reverse xs
+reverse_push xs x = reverse-append xs (x ∷ [])
+
+pub tokens_of-push : (xs : List Token) (x : Token) → tokens_of (xs ++ x ∷ []) ≡ plain_token x ∷ tokens_of xs
+unfolding tokens_of
+tokens_of-push xs x = ap plain_tokens (reverse_push xs x)
+
+pub tokens_of-nothing : tokens_of [] ≡ []
+unfolding tokens_of
+tokens_of-nothing = refl
+
+pub operands_of-push : (xs : List Operand) (x : Operand) → operands_of (xs ++ x ∷ []) ≡ plain_operand x ∷ operands_of xs
+unfolding operands_of
+operands_of-push xs x = ap (map plain_operand) (reverse_push xs x)
+
+pub operands_of-nothing : operands_of [] ≡ []
+unfolding operands_of
+operands_of-nothing = refl
+
+pub stack_of-push : (xs : List Symbol) (x : Symbol) → stack_of (xs ++ x ∷ []) ≡ plain_symbol x ∷ stack_of xs
+unfolding stack_of
+stack_of-push xs x = ap plain_symbols (reverse_push xs x)
+
+pub stack_of-nothing : stack_of [] ≡ []
+unfolding stack_of
+stack_of-nothing = refl
+
+pub ruleset stacks = (tokens_of-push, tokens_of-nothing, operands_of-push, operands_of-nothing, stack_of-push, stack_of-nothing)
