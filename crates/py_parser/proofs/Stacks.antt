@@ -3,6 +3,10 @@ use Rattle.std.proofs.Common.{◌≡◌, ℕ, List, [], ◌∷◌, ◌++◌, map
 use Rattle.std.proofs.lemmas.List.{reverse-append}
 use Rattle.py_meaning.specs.Token as meaning
 use Rattle.py_meaning.specs.Table as table
+use Rattle.py_meaning.specs.Table.{add_behind}
+use Rattle.py_meaning.specs.Tree.{more}
+use Rattle.py_parser.specs.PlainTrees.{plain_stmt, plain_body}
+use Rattle.py_parser.specs.declared.tree.Stmt.{Stmt}
 use Rattle.py_parser.specs.Bounded as bounded
 use Rattle.py_parser.specs.PlainTokens.{plain_token, plain_tokens}
 use Rattle.py_parser.specs.PlainTable.{plain_symbol, plain_symbols}
@@ -39,3 +43,9 @@ unfolding stack_of
 stack_of-nothing = refl
 
 pub ruleset stacks = (tokens_of-push, tokens_of-nothing, operands_of-push, operands_of-nothing, stack_of-push, stack_of-nothing)
+
+pub body-push : (body : List Stmt) (s : Stmt) → plain_body (body ++ s ∷ []) ≡ add_behind (plain_body body) (plain_stmt s)
+body-push [] s = refl
+body-push (first ∷ body) s = ap (more (plain_stmt first)) (body-push body s)
+
+pub ruleset bodies = (body-push)

@@ -1,10 +1,11 @@
 //! Tokens become a tree: one loop over a stack of symbols, with one token of sight.
 
 ghost use Rattle.std.specs.Prelude.{◌≡◌, [], ◌∷◌, ◌++◌, reverse, length, IfOk, OnOk, MatchOption};
-ghost use Rattle.py_meaning.specs.Table.{Leaf, Negate, Join, Assign, Print};
+ghost use Rattle.std.specs.Option.{option_map};
+ghost use Rattle.py_meaning.specs.Table.{Leaf, Negate, Join, Assign, Print, add_behind};
 ghost use Rattle.py_meaning.specs.Table.{operator_of};
 ghost use Rattle.py_parser.specs.PlainTokens.{plain_token, plain_tokens, plain_place, plain_kind};
-ghost use Rattle.py_parser.specs.PlainTrees.{plain_expr, plain, plain_binary};
+ghost use Rattle.py_parser.specs.PlainTrees.{plain_expr, plain, plain_binary, plain_stmt};
 ghost use Rattle.py_parser.specs.PlainTable.{plain_symbols, plain_action};
 ghost use Rattle.py_parser.specs.PlainKept.{plain_operand, plain_kept, plain_next, stack_of};
 ghost use Rattle.py_parser.specs.Bounded.{negated, joined, leaf, negate, join, assign, print, perform, one_step, keep};
@@ -136,5 +137,51 @@ fn negation_kept(alloc: Global, kept: &mut Kept) -> Result<(), AllocError>
     };
     let operand = negated_operand(alloc, token.place, operand)?;
     kept.operands.push(operand)?;
+    Ok(())
+}
+
+#[tactic(auto, using(crate::proofs::Stacks::stacks))]
+fn join_kept(alloc: Global, kept: &mut Kept) -> Result<(), AllocError>
+    ensures { OnOk result (plain_kept kept.new ≡ perform Join (plain_kept kept.old)) }
+{
+    let (Some(token), Some(right)) = (kept.tokens.pop(), kept.operands.pop()) else {
+        return Err(AllocError);
+    };
+    let Some(left) = kept.operands.pop() else {
+        return Err(AllocError);
+    };
+    let operand = joined_operands(alloc, token.place, operator(&token.kind), left, right)?;
+    kept.operands.push(operand)?;
+    Ok(())
+}
+
+/// Takes up a statement whose expression may have a height of `room`, where there is a body.
+#[tactic(auto, using(crate::proofs::Stacks::bodies))]
+fn add_statement(body: &mut Option<Module>, statement: Stmt) -> Result<(), AllocError>
+    ensures { OnOk result (option_map plain body.new ≡ option_map (λ b. add_behind b (plain_stmt statement)) (option_map plain body.old)) }
+{
+    if let Some(module) = body {
+        module.body.push(statement)?;
+    }
+    Ok(())
+}
+
+#[tactic(auto, using(crate::proofs::Stacks::stacks))]
+fn assignment_kept(kept: &mut Kept) -> Result<(), AllocError>
+    ensures { OnOk result (plain_kept kept.new ≡ perform Assign (plain_kept kept.old)) }
+{
+    let (Some(_), Some(_), Some(token)) = (kept.tokens.pop(), kept.tokens.pop(), kept.tokens.pop()) else {
+        return Err(AllocError);
+    };
+    let Token { place, kind: TokenKind::Name(name) } = token else {
+        return Err(AllocError);
+    };
+    match kept.operands.pop() {
+        Some(Operand::Known(height, expr)) if height <= MOST_ANCESTORS - 1 => {
+            add_statement(&mut kept.body, Stmt::Assign(place, name, expr))?;
+        }
+        Some(_) => kept.body = None,
+        None => return Err(AllocError),
+    }
     Ok(())
 }
