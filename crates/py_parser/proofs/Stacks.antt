@@ -1,5 +1,5 @@
 -- Stacks whose top is at the end.
-use Rattle.std.proofs.Common.{◌≡◌, ℕ, List, [], ◌∷◌, ◌++◌, map, reverse, refl, sym, ap, ◌∙◌, append_assoc}
+use Rattle.std.proofs.Common.{◌≡◌, ℕ, zero, suc, ◌-◌, ◌<◌, ◌≤◌, List, [], ◌∷◌, ◌++◌, map, reverse, length, drop, get_or, drop-cons, arith, refl, sym, ap, ◌∙◌}
 use Rattle.std.proofs.lemmas.List.{reverse-append}
 use Rattle.py_meaning.specs.Token as meaning
 use Rattle.py_meaning.specs.Table as table
@@ -49,3 +49,12 @@ body-push [] s = refl
 body-push (first ∷ body) s = ap (more (plain_stmt first)) (body-push body s)
 
 pub ruleset bodies = (body-push)
+
+-- a row is put on the stack from its end
+pub push_before : (row : List Symbol) (i : ℕ) (d : Symbol) (xs : List Symbol) (below : List table.Symbol) → 0 < i → i ≤ length row
+    → stack_of xs ≡ plain_symbols (drop i row) ++ below → stack_of (xs ++ get_or row (i - 1) d ∷ []) ≡ plain_symbols (drop (i - 1) row) ++ below
+push_before row zero d xs below p q h = absurd (omega arith)
+push_before row (suc i) d xs below p q h =
+    let less : i < length row = omega arith in
+    let one : suc i - 1 ≡ i = omega arith in
+    rw (one, drop-cons row i d, stack_of-push) (ap (λ (l : List table.Symbol). plain_symbol (get_or row i d) ∷ l) h)

@@ -7,7 +7,8 @@ use Rattle.py_meaning.specs.Table as table
 use Rattle.py_parser.specs.Bounded as bounded
 use Rattle.py_parser.specs.PlainTokens.{plain_token, plain_tokens}
 use Rattle.py_parser.specs.PlainTrees.{plain_expr, plain}
-use Rattle.py_parser.specs.PlainTable.{plain_symbol, plain_symbols}
+use Rattle.py_parser.specs.PlainTable.{plain_symbol, plain_symbols, kind_of_token}
+use Rattle.py_parser.specs.declared.table.Kind.{Kind}
 use Rattle.py_parser.specs.declared.table.Symbol.{Symbol}
 use Rattle.py_parser.specs.declared.token.Token.{Token}
 use Rattle.py_parser.specs.declared.parser.Operand.{Operand}
@@ -38,3 +39,12 @@ abbrev pub plain_next : Next → List table.Symbol → bounded.Kept → bounded.
 plain_next (next.Goes rest) symbols kept = bounded.Going symbols kept (plain_tokens rest.now)
 plain_next next.Done symbols kept = bounded.Finished
 plain_next next.Stuck symbols kept = bounded.Halted
+
+-- the kind of the next token
+abbrev pub sight_of : List Token → Option Kind
+sight_of [] = None
+sight_of (t ∷ rest) = Some (kind_of_token t)
+
+-- the state before a step, as Bounded.antt steps from it
+abbrev pub stepped : List Symbol → Kept → List Token → bounded.Step
+stepped symbols kept rest = bounded.one_step (stack_of symbols) (plain_kept kept) (plain_tokens rest)

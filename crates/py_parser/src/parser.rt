@@ -1,14 +1,16 @@
 //! Tokens become a tree: one loop over a stack of symbols, with one token of sight.
 
-ghost use Rattle.std.specs.Prelude.{◌≡◌, [], ◌∷◌, ◌++◌, reverse, length, IfOk, OnOk, MatchOption};
+ghost use Rattle.std.specs.Prelude.{◌≡◌, List, [], ◌∷◌, ◌++◌, reverse, length, IfOk, OnOk, MatchOption, string_bytes};
 ghost use Rattle.std.specs.Option.{option_map};
+ghost use Rattle.py_meaning.specs.Tree.{SAssign, SPrint};
 ghost use Rattle.py_meaning.specs.Table.{Leaf, Negate, Join, Assign, Print, add_behind};
-ghost use Rattle.py_meaning.specs.Table.{operator_of};
+ghost use Rattle.py_meaning.specs.Table.{operator_of, Symbol as PlainSymbol};
+ghost use Rattle.grammars.specs.Grammar.{Tok};
 ghost use Rattle.py_parser.specs.PlainTokens.{plain_token, plain_tokens, plain_place, plain_kind};
 ghost use Rattle.py_parser.specs.PlainTrees.{plain_expr, plain, plain_binary, plain_stmt};
-ghost use Rattle.py_parser.specs.PlainTable.{plain_symbols, plain_action};
-ghost use Rattle.py_parser.specs.PlainKept.{plain_operand, plain_kept, plain_next, stack_of};
-ghost use Rattle.py_parser.specs.Bounded.{negated, joined, leaf, negate, join, assign, print, perform, one_step, keep};
+ghost use Rattle.py_parser.specs.PlainTable.{plain_symbols, plain_action, number};
+ghost use Rattle.py_parser.specs.PlainKept.{plain_operand, plain_kept, plain_next, stack_of, sight_of};
+ghost use Rattle.py_parser.specs.Bounded.{negated, joined, stated, perform, one_step, keep};
 
 use crate::table::{Action, Kind, Nonterminal, Symbol, is_same, kind_of, row_at};
 use crate::token::{Mark, Place, Token, TokenKind};
@@ -155,13 +157,39 @@ fn join_kept(alloc: Global, kept: &mut Kept) -> Result<(), AllocError>
     Ok(())
 }
 
-/// Takes up a statement whose expression may have a height of `room`, where there is a body.
+/// Adds a statement, where there is a body.
 #[tactic(auto, using(crate::proofs::Stacks::bodies))]
 fn add_statement(body: &mut Option<Module>, statement: Stmt) -> Result<(), AllocError>
     ensures { OnOk result (option_map plain body.new ≡ option_map (λ b. add_behind b (plain_stmt statement)) (option_map plain body.old)) }
 {
     if let Some(module) = body {
         module.body.push(statement)?;
+    }
+    Ok(())
+}
+
+/// Adds an assignment, if its expression may stand there.
+fn assign_in(body: &mut Option<Module>, place: Place, name: String, operand: Operand) -> Result<(), AllocError>
+    ensures { OnOk result (option_map plain body.new ≡ stated 99 (SAssign (plain_place place) (string_bytes name)) (plain_operand operand) (option_map plain body.old)) }
+{
+    match operand {
+        Operand::Known(height, expr) if height <= MOST_ANCESTORS - 1 => {
+            add_statement(body, Stmt::Assign(place, name, expr))?;
+        }
+        _ => *body = None,
+    }
+    Ok(())
+}
+
+/// Adds a call of `print`, if its expression may stand there.
+fn print_in(body: &mut Option<Module>, place: Place, call: Place, operand: Operand) -> Result<(), AllocError>
+    ensures { OnOk result (option_map plain body.new ≡ stated 98 (SPrint (plain_place place) (plain_place call)) (plain_operand operand) (option_map plain body.old)) }
+{
+    match operand {
+        Operand::Known(height, expr) if height <= MOST_ANCESTORS - 2 => {
+            add_statement(body, Stmt::Print(place, call, expr))?;
+        }
+        _ => *body = None,
     }
     Ok(())
 }
@@ -176,12 +204,80 @@ fn assignment_kept(kept: &mut Kept) -> Result<(), AllocError>
     let Token { place, kind: TokenKind::Name(name) } = token else {
         return Err(AllocError);
     };
-    match kept.operands.pop() {
-        Some(Operand::Known(height, expr)) if height <= MOST_ANCESTORS - 1 => {
-            add_statement(&mut kept.body, Stmt::Assign(place, name, expr))?;
-        }
-        Some(_) => kept.body = None,
-        None => return Err(AllocError),
+    let Some(operand) = kept.operands.pop() else {
+        return Err(AllocError);
+    };
+    assign_in(&mut kept.body, place, name, operand)
+}
+
+#[tactic(auto, using(crate::proofs::Stacks::stacks))]
+fn printing_kept(kept: &mut Kept) -> Result<(), AllocError>
+    ensures { OnOk result (plain_kept kept.new ≡ perform Print (plain_kept kept.old)) }
+{
+    let (Some(_), Some(_)) = (kept.tokens.pop(), kept.tokens.pop()) else {
+        return Err(AllocError);
+    };
+    let (Some(call), Some(print)) = (kept.tokens.pop(), kept.tokens.pop()) else {
+        return Err(AllocError);
+    };
+    let Some(operand) = kept.operands.pop() else {
+        return Err(AllocError);
+    };
+    print_in(&mut kept.body, print.place, call.place, operand)
+}
+
+fn act(alloc: Global, action: Action, kept: &mut Kept) -> Result<(), AllocError>
+    ensures { OnOk result (plain_kept kept.new ≡ perform (plain_action action) (plain_kept kept.old)) }
+{
+    match action {
+        Action::Leaf => leaf_kept(kept),
+        Action::Negate => negation_kept(alloc, kept),
+        Action::Join => join_kept(alloc, kept),
+        Action::Assign => assignment_kept(kept),
+        Action::Print => printing_kept(kept),
+    }
+}
+
+#[tactic(auto, using(crate::proofs::Stacks::stacks))]
+fn keep_token(token: &Token, kept: &mut Kept) -> Result<(), AllocError>
+    ensures { OnOk result (plain_kept kept.new ≡ keep (plain_token token.now) (plain_kept kept.old)) }
+{
+    let token = copied(token)?;
+    kept.tokens.push(token)?;
+    Ok(())
+}
+
+/// Puts the symbols of a row on the stack, the first on top.
+#[tactic(auto, using(crate::proofs::Stacks::stacks))]
+fn push_row(symbols: &mut Vec<Symbol>, row: &[Symbol]) -> Result<(), AllocError>
+    ensures { OnOk result (stack_of symbols.new.items ≡ plain_symbols row.now ++ stack_of symbols.old.items) }
+{
+    for i in (0..row.len()).rev() {
+        symbols.push(row[i])?;
     }
     Ok(())
+}
+
+fn sight(rest: &[Token]) -> Option<Kind>
+    ensures { result ≡ sight_of rest.now }
+{
+    match rest.first() {
+        Some(token) => Some(kind_of(token)),
+        None => None,
+    }
+}
+
+/// Reads a token of this kind.
+#[tactic(auto, using(crate::proofs::Rows::kinds))]
+fn read<'a>(kind: Kind, kept: &mut Kept, rest: &'a [Token]) -> Result<Next<'a>, AllocError>
+    ensures { IfOk result (λ next. (symbols : List PlainSymbol) → plain_next next symbols (plain_kept kept.new) ≡ one_step (Tok (number kind) ∷ symbols) (plain_kept kept.old) (plain_tokens rest.now)) }
+{
+    let Some((token, more)) = rest.split_first() else {
+        return Ok(Next::Stuck);
+    };
+    if !is_same(kind_of(token), kind) {
+        return Ok(Next::Stuck);
+    }
+    keep_token(token, kept)?;
+    Ok(Next::Goes(more))
 }
