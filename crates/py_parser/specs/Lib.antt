@@ -3,3 +3,4 @@ pub mod PlainTrees
 pub mod PlainTable
 pub mod Bounded
 pub mod PlainKept
+pub mod Parsed
