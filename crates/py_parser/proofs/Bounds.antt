@@ -130,3 +130,80 @@ join_stands (At p k ∷ ts) (e ∷ []) (o ∷ []) v w a s = s
 join_stands (At p k ∷ ts) (e ∷ []) (o ∷ q ∷ os) v w a s = absurd a.1
 join_stands (At p k ∷ ts) (e ∷ d ∷ es) (o ∷ []) v w a s = absurd a.1
 join_stands (At p k ∷ ts) (b ∷ c ∷ es) (o ∷ q ∷ os) v w a s = (refl, (joined_stands p (operator_of k) c b q o a.1.0 a.0, a.1.1), s.2)
+
+assign_stands : (ts : List Token) (es : List Expr) (os : List Operand) (v : Built) (w : Kept) → AllStand es os → ValueStands v w
+    → ValueStands (table.assign ts es v) (assign ts os w)
+assign_stands [] es os v w a s = s
+assign_stands (n ∷ []) es os v w a s = s
+assign_stands (n ∷ q ∷ []) es os v w a s = s
+assign_stands (n ∷ q ∷ At p (TName x) ∷ ts) [] [] v w a s = s
+assign_stands (n ∷ q ∷ At p (TName x) ∷ ts) [] (o ∷ os) v w a s = absurd a
+assign_stands (n ∷ q ∷ At p (TName x) ∷ ts) (e ∷ es) [] v w a s = absurd a
+assign_stands (n ∷ q ∷ At p (TName x) ∷ ts) (e ∷ es) (o ∷ os) v w a s =
+    (refl, a.1, stated_stands 1 99 (SAssign p x) refl (λ d h. h) (λ d h. h) e o v.body w.body a.0 s.2)
+assign_stands (n ∷ q ∷ At p _ ∷ ts) es os v w a s = s
+
+print_stands : (ts : List Token) (es : List Expr) (os : List Operand) (v : Built) (w : Kept) → AllStand es os → ValueStands v w
+    → ValueStands (table.print ts es v) (print ts os w)
+print_stands [] es os v w a s = s
+print_stands (n ∷ []) es os v w a s = s
+print_stands (n ∷ q ∷ []) es os v w a s = s
+print_stands (n ∷ q ∷ At c k ∷ []) es os v w a s = s
+print_stands (n ∷ q ∷ At c k ∷ At p l ∷ ts) [] [] v w a s = s
+print_stands (n ∷ q ∷ At c k ∷ At p l ∷ ts) [] (o ∷ os) v w a s = absurd a
+print_stands (n ∷ q ∷ At c k ∷ At p l ∷ ts) (e ∷ es) [] v w a s = absurd a
+print_stands (n ∷ q ∷ At c k ∷ At p l ∷ ts) (e ∷ es) (o ∷ os) v w a s =
+    (refl, a.1, stated_stands 2 98 (SPrint p c) refl (λ d h. h) (λ d h. h) e o v.body w.body a.0 s.2)
+
+act_stands : (a : Action) (v : Built) (w : Kept) → ValueStands v w → ValueStands (act a v) (perform a w)
+act_stands Leaf v w s = subst (λ (ts : List Token). ValueStands (table.leaf v.tokens v) (leaf ts w)) s.0 (leaf_stands v.tokens v w s)
+act_stands Negate v w s =
+    subst (λ (ts : List Token). ValueStands (table.negate v.tokens v.exprs v) (negate ts w.operands w)) s.0 (negate_stands v.tokens v.exprs w.operands v w s.1 s)
+act_stands Join v w s =
+    subst (λ (ts : List Token). ValueStands (table.join v.tokens v.exprs v) (join ts w.operands w)) s.0 (join_stands v.tokens v.exprs w.operands v w s.1 s)
+act_stands Assign v w s =
+    subst (λ (ts : List Token). ValueStands (table.assign v.tokens v.exprs v) (assign ts w.operands w)) s.0 (assign_stands v.tokens v.exprs w.operands v w s.1 s)
+act_stands Print v w s =
+    subst (λ (ts : List Token). ValueStands (table.print v.tokens v.exprs v) (print ts w.operands w)) s.0 (print_stands v.tokens v.exprs w.operands v w s.1 s)
+
+rows_agree : (x : Nonterminal) → RowsAgree ValueStands (rows x) (bounded_rows (rows x))
+rows_agree Statements = (refl, λ v w h. refl, (refl, λ v w h. refl, tt))
+rows_agree Statement = (refl, λ v w h. refl, (refl, λ v w h. refl, tt))
+rows_agree Sum = (refl, λ v w h. refl, tt)
+rows_agree SumTail = (refl, λ v w h. refl, (refl, λ v w h. refl, (refl, λ v w h. refl, tt)))
+rows_agree Term = (refl, λ v w h. refl, tt)
+rows_agree TermTail = (refl, λ v w h. refl, (refl, λ v w h. refl, tt))
+rows_agree Item = (refl, λ v w h. refl, (refl, λ v w h. refl, (refl, λ v w h. refl, tt)))
+
+agree : Agree table.table bounded ValueStands
+agree = record {
+    kind = λ t. refl;
+    take_in = λ t v w s. (ap (λ (ts : List Token). t ∷ ts) s.0, s.1, s.2);
+    act = act_stands;
+    rows = rows_agree
+  }
+
+both_run : (n : ℕ) (ts : List Token) → OutcomesAgree ValueStands (run table.table sets n goal start ts) (run bounded sets n goal kept_at_start ts)
+both_run n ts = runs_agree table.table bounded ValueStands sets agree n goal start kept_at_start ts (refl, tt, (refl, tt))
+
+parsed : (ts : List Token) (body : Body) (kept : Option Body) → BodyStands body kept → IsBody body ts → IsParsed kept ts
+parsed ts body (Some kept) s i = (subst (λ (b : Body). IsBody b ts) s.0 i, subst IsShallowBody s.0 s.1)
+parsed ts body None s i = λ b h sh. s (subst IsShallowBody (one_tree b body ts h i) sh)
+
+pub parsed_at_end : (n : ℕ) (ts : List Token) (w : Kept) → run bounded sets n goal kept_at_start ts ≡ Done w → IsParsed w.body ts
+parsed_at_end n ts w h = go (run table.table sets n goal start ts) refl
+    (subst (λ (o : Outcome Token Kept). OutcomesAgree ValueStands (run table.table sets n goal start ts) o) h (both_run n ts))
+  where
+    go : (o : Outcome Token Built) → run table.table sets n goal start ts ≡ o → OutcomesAgree ValueStands o (Done w) → IsParsed w.body ts
+    go (Done v) e s = parsed ts v.body w.body s.2 (run_builds_tree n ts v e).1
+    go (Stuck rest) e s = absurd s
+    go Late e s = absurd s
+
+pub parsed_when_stuck : (n : ℕ) (ts rest : List Token) → run bounded sets n goal kept_at_start ts ≡ Stuck rest → IsParsed None ts
+parsed_when_stuck n ts rest h = go (run table.table sets n goal start ts) refl
+    (subst (λ (o : Outcome Token Kept). OutcomesAgree ValueStands (run table.table sets n goal start ts) o) h (both_run n ts))
+  where
+    go : (o : Outcome Token Built) → run table.table sets n goal start ts ≡ o → OutcomesAgree ValueStands o (Stuck rest) → IsParsed None ts
+    go (Done v) e s = absurd s
+    go (Stuck others) e s = λ b h sh. stuck_has_no_tree n ts others e b h
+    go Late e s = absurd s

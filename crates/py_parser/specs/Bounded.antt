@@ -88,7 +88,7 @@ row_for x s = option_map (λ r. r.symbols) (pick bounded sets x kept_at_start s)
 -- one step of the run
 pub data Step : Type 0 where
   Going : (symbols : List Symbol) → (value : Kept) → (rest : List Token) → Step
-  Finished : Step
+  Finished : (value : Kept) → Step
   Halted : Step
 
 abbrev pub expanded : Option (List Symbol) → List Symbol → Kept → List Token → Step
@@ -96,7 +96,7 @@ expanded None symbols v ts = Halted
 expanded (Some row) symbols v ts = Going (row ++ symbols) v ts
 
 abbrev pub one_step : List Symbol → Kept → List Token → Step
-one_step [] v [] = Finished
+one_step [] v [] = Finished v
 one_step [] v (t ∷ ts) = Halted
 one_step (Tok k ∷ symbols) v [] = Halted
 one_step (Tok k ∷ symbols) v (t ∷ ts) = if kind_of t == k then Going symbols (keep t v) ts else Halted

@@ -37,14 +37,10 @@ plain_kept kept = record { tokens = tokens_of kept.tokens.items; operands = oper
 -- what a step has come to, with these symbols and this value left
 abbrev pub plain_next : Next → List table.Symbol → bounded.Kept → bounded.Step
 plain_next (next.Goes rest) symbols kept = bounded.Going symbols kept (plain_tokens rest.now)
-plain_next next.Done symbols kept = bounded.Finished
+plain_next next.Done symbols kept = bounded.Finished kept
 plain_next next.Stuck symbols kept = bounded.Halted
 
 -- the kind of the next token
 abbrev pub sight_of : List Token → Option Kind
 sight_of [] = None
 sight_of (t ∷ rest) = Some (kind_of_token t)
-
--- the state before a step, as Bounded.antt steps from it
-abbrev pub stepped : List Symbol → Kept → List Token → bounded.Step
-stepped symbols kept rest = bounded.one_step (stack_of symbols) (plain_kept kept) (plain_tokens rest)
