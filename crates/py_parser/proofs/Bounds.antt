@@ -1,16 +1,15 @@
 -- The run with bounded values answers as the run that builds every tree: it has the tree, or knows that it nests too much.
-use Rattle.std.proofs.Common.{◌≡◌, ℕ, zero, suc, ◌+◌, ◌<◌, ◌≤◌, max, Bool, true, false, cond, nat_lt, nat_le, List, [], ◌∷◌, ◌++◌, refl, sym, ap, ap₂, ◌∙◌, subst, arith, ltb-true, ltb-false, lt-ltb, leb-true, leb-false, le-leb, Option, Some, None}
-use Rattle.grammars.specs.Grammar.{allows}
+use Rattle.std.proofs.Common.{◌≡◌, ℕ, suc, ◌+◌, ◌<◌, ◌≤◌, max, Bool, true, false, cond, nat_lt, nat_le, List, [], ◌∷◌, refl, ap, ap₂, subst, arith, ltb-false, leb-true, leb-false, Option, Some, None}
 use Rattle.grammars.specs.Run.{Outcome, Done, Stuck, Late, run}
 use Rattle.grammars.proofs.Alike.{Agree, RowsAgree, OutcomesAgree, runs_agree}
-use Rattle.py_meaning.specs.Token.{Place, Mark, Kind, TName, TNumber, TPrint, TMark, TNewline, Token, At}
-use Rattle.py_meaning.specs.Tree.{Unary, Negative, Binary, Add, Subtract, Multiply, Expr, EName, ENumber, EUnary, EBinary, Stmt, SAssign, SPrint, Body, none, more}
+use Rattle.py_meaning.specs.Token.{Place, TName, TNumber, Token, At}
+use Rattle.py_meaning.specs.Tree.{Negative, Binary, Expr, EName, ENumber, EUnary, EBinary, Stmt, SAssign, SPrint, Body, none, more}
 use Rattle.py_meaning.specs.Grammar.{IsBody}
-use Rattle.py_meaning.specs.Rules.{most_ancestors, IsShallow, IsShallowStmt, IsShallowBody}
+use Rattle.py_meaning.specs.Rules.{IsShallow, IsShallowStmt, IsShallowBody}
 use Rattle.py_meaning.specs.Table as table
 use Rattle.py_meaning.specs.Table.{Nonterminal, Statements, Statement, Sum, SumTail, Term, TermTail, Item, Action, Leaf, Negate, Join, Assign, Print, Built, start, finished, add_behind, operator_of, take_in, act, rows, sets, goal}
-use Rattle.py_meaning.proofs.TableLaws.{run_builds_tree, stuck_has_no_tree, one_tree, tree_is_reached}
-use Rattle.py_parser.specs.Bounded.{Operand, Known, TooHigh, Kept, kept_at_start, keep, negated, joined, stated, leaf, negate, join, assign, print, perform, bounded_rows, bounded}
+use Rattle.py_meaning.proofs.TableLaws.{run_builds_tree, stuck_has_no_tree, one_tree}
+use Rattle.py_parser.specs.Bounded.{Operand, Known, TooHigh, Kept, kept_at_start, negated, joined, stated, leaf, negate, join, assign, print, perform, bounded_rows, bounded}
 use Rattle.py_parser.specs.Parsed.{IsParsed}
 
 -- how far an expression's nodes go below it
@@ -90,7 +89,7 @@ stated_stands : (n room : ℕ) (make : Expr → Stmt) → n + room ≡ 100 → (
 stated_stands n room make sum fit fits e (Known h d) body (Some kept) s b = go (nat_le h room) refl
   where
     go : (k : Bool) → nat_le h room ≡ k → BodyStands (add_behind body (make e)) (cond k (Some (add_behind kept (make d))) None)
-    go true q = 
+    go true q =
         let r : h ≤ room = leb-true _ _ q in
         let t : height e ≡ h = s.1 in
         (ap₂ (λ (x : Body) (y : Expr). add_behind x (make y)) b.0 s.0, shallow_behind body (make e) b.1 (fit e (shallow n e (omega arith))))
@@ -177,11 +176,11 @@ rows_agree Item = (refl, λ v w h. refl, (refl, λ v w h. refl, (refl, λ v w h.
 
 agree : Agree table.table bounded ValueStands
 agree = record {
-    kind = λ t. refl;
-    take_in = λ t v w s. (ap (λ (ts : List Token). t ∷ ts) s.0, s.1, s.2);
-    act = act_stands;
-    rows = rows_agree
-  }
+  kind = λ t. refl;
+  take_in = λ t v w s. (ap (λ (ts : List Token). t ∷ ts) s.0, s.1, s.2);
+  act = act_stands;
+  rows = rows_agree;
+}
 
 both_run : (n : ℕ) (ts : List Token) → OutcomesAgree ValueStands (run table.table sets n goal start ts) (run bounded sets n goal kept_at_start ts)
 both_run n ts = runs_agree table.table bounded ValueStands sets agree n goal start kept_at_start ts (refl, tt, (refl, tt))

@@ -1,9 +1,9 @@
 -- The loop's turns are steps of the run.
-use Rattle.std.proofs.Common.{◌≡◌, ℕ, zero, suc, ◌+◌, Bool, true, false, cond, ◌&&◌, ◌==◌, List, [], ◌∷◌, ◌++◌, refl, sym, ap, ◌∙◌, subst, arith, Option, Some, None}
+use Rattle.std.proofs.Common.{◌≡◌, ℕ, suc, ◌+◌, Bool, true, false, cond, ◌&&◌, ◌==◌, List, [], ◌∷◌, refl, sym, ap, ◌∙◌, arith, Option, Some, None}
 use Rattle.std.specs.Option.{option_map}
 use Rattle.grammars.specs.Grammar.{Sym, Tok, Non, Do, allows, Row, Sight, sight}
 use Rattle.grammars.specs.Sets.{has, ahead}
-use Rattle.grammars.specs.Run.{Outcome, Done, Stuck, Late, first_row, pick, expand, run}
+use Rattle.grammars.specs.Run.{Outcome, Done, Stuck, first_row, pick, expand, run}
 use Rattle.py_meaning.specs.Token.{Token}
 use Rattle.py_meaning.specs.Table.{Nonterminal, Action, Built, Symbol, kind_of, rows, table, sets, goal}
 use Rattle.py_parser.specs.Bounded.{Kept, kept_at_start, keep, bounded_rows, bounded, row_for, Step, Going, Finished, Halted, expanded, one_step}
@@ -40,8 +40,8 @@ step_runs n (Tok k ∷ symbols) v (t ∷ ts) = go (kind_of t == k)
     go false = refl
 step_runs n (Non x ∷ symbols) v ts =
     ap (expand (run bounded sets n) symbols v ts) (unguarded x v kept_at_start (sight bounded ts) (rows x))
-        ∙ row_expanded n symbols v ts (pick bounded sets x kept_at_start (sight bounded ts))
-        ∙ ap (λ (s : Sight). after n ts (expanded (row_for x s) symbols v ts)) (same_sight_of ts)
+    ∙ row_expanded n symbols v ts (pick bounded sets x kept_at_start (sight bounded ts))
+    ∙ ap (λ (s : Sight). after n ts (expanded (row_for x s) symbols v ts)) (same_sight_of ts)
   where
     same_sight_of : (l : List Token) → sight bounded l ≡ sight table l
     same_sight_of [] = refl

@@ -1,12 +1,12 @@
 -- The grammar with values that stay small: in place of an expression that is higher than a node may be deep, there is a
 -- mark, and in place of a module that nests too much there is nothing.
-use Rattle.std.specs.Prelude.{ℕ, suc, max, Bool, nat_lt, nat_le, cond, ◌==◌, List, [], ◌∷◌, ◌++◌, if◌then◌else◌, Option, Some, None}
+use Rattle.std.specs.Prelude.{ℕ, suc, max, nat_lt, nat_le, ◌==◌, List, [], ◌∷◌, ◌++◌, if◌then◌else◌, Option, Some, None}
 use Rattle.std.specs.Option.{option_map}
 use Rattle.grammars.specs.Grammar.{Tok, Non, Do, Always, Row, Grammar, Sight, sight}
 use Rattle.grammars.specs.Run.{pick}
 use Rattle.py_meaning.specs.Rules.{most_ancestors}
-use Rattle.py_meaning.specs.Token.{Place, Kind, TName, TNumber, Token, At}
-use Rattle.py_meaning.specs.Tree.{Negative, Binary, Expr, EName, ENumber, EUnary, EBinary, Stmt, SAssign, SPrint, Body, none, more}
+use Rattle.py_meaning.specs.Token.{Place, TName, TNumber, Token, At}
+use Rattle.py_meaning.specs.Tree.{Negative, Binary, Expr, EName, ENumber, EUnary, EBinary, Stmt, SAssign, SPrint, Body, none}
 use Rattle.py_meaning.specs.Table.{Nonterminal, Action, Leaf, Negate, Join, Assign, Print, Symbol, kind_of, operator_of, add_behind, table, sets, start}
 
 pub data Operand : Type 0 where

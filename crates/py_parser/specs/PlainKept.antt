@@ -1,13 +1,12 @@
 -- What the parser keeps, as the plain values of Bounded.antt: its stacks have their tops at the end.
-use Rattle.std.specs.Prelude.{◌≡◌, List, [], ◌∷◌, ◌++◌, map, reverse, Option, Some, None}
+use Rattle.std.specs.Prelude.{List, [], ◌∷◌, map, reverse, Option, Some, None}
 use Rattle.std.specs.Option.{option_map}
-use Rattle.std.proofs.Common.{ap, sym, ◌∙◌, refl}
 use Rattle.py_meaning.specs.Token as meaning
 use Rattle.py_meaning.specs.Table as table
 use Rattle.py_parser.specs.Bounded as bounded
-use Rattle.py_parser.specs.PlainTokens.{plain_token, plain_tokens}
+use Rattle.py_parser.specs.PlainTokens.{plain_tokens}
 use Rattle.py_parser.specs.PlainTrees.{plain_expr, plain}
-use Rattle.py_parser.specs.PlainTable.{plain_symbol, plain_symbols, kind_of_token}
+use Rattle.py_parser.specs.PlainTable.{plain_symbols, kind_of_token}
 use Rattle.py_parser.specs.declared.table.Kind.{Kind}
 use Rattle.py_parser.specs.declared.table.Symbol.{Symbol}
 use Rattle.py_parser.specs.declared.token.Token.{Token}

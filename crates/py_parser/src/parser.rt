@@ -72,7 +72,10 @@ fn negated_operand(alloc: Global, place: Place, operand: Operand) -> Result<Oper
         Operand::Known(height, expr) => {
             if height < MOST_ANCESTORS {
                 let inner = Boxed::new(alloc, expr)?;
-                Ok(Operand::Known(height + 1, Expr::Unary(place, UnaryOperator::Negative, inner)))
+                Ok(Operand::Known(
+                    height + 1,
+                    Expr::Unary(place, UnaryOperator::Negative, inner),
+                ))
             } else {
                 Ok(Operand::TooHigh)
             }
@@ -124,8 +127,12 @@ fn leaf_kept(kept: &mut Kept) -> Result<(), AllocError>
         return Err(AllocError);
     };
     match kind {
-        TokenKind::Name(name) => kept.operands.push(Operand::Known(0, Expr::Name(place, name)))?,
-        TokenKind::Number(value) => kept.operands.push(Operand::Known(0, Expr::Number(place, value)))?,
+        TokenKind::Name(name) => kept
+            .operands
+            .push(Operand::Known(0, Expr::Name(place, name)))?,
+        TokenKind::Number(value) => kept
+            .operands
+            .push(Operand::Known(0, Expr::Number(place, value)))?,
         _ => return Err(AllocError),
     }
     Ok(())
@@ -170,7 +177,12 @@ fn add_statement(body: &mut Option<Module>, statement: Stmt) -> Result<(), Alloc
 }
 
 /// Adds an assignment, if its expression may stand there.
-fn assign_in(body: &mut Option<Module>, place: Place, name: String, operand: Operand) -> Result<(), AllocError>
+fn assign_in(
+    body: &mut Option<Module>,
+    place: Place,
+    name: String,
+    operand: Operand,
+) -> Result<(), AllocError>
     ensures { OnOk result (option_map plain body.new ≡ stated 99 (SAssign (plain_place place) (string_bytes name)) (plain_operand operand) (option_map plain body.old)) }
 {
     match operand {
@@ -183,7 +195,12 @@ fn assign_in(body: &mut Option<Module>, place: Place, name: String, operand: Ope
 }
 
 /// Adds a call of `print`, if its expression may stand there.
-fn print_in(body: &mut Option<Module>, place: Place, call: Place, operand: Operand) -> Result<(), AllocError>
+fn print_in(
+    body: &mut Option<Module>,
+    place: Place,
+    call: Place,
+    operand: Operand,
+) -> Result<(), AllocError>
     ensures { OnOk result (option_map plain body.new ≡ stated 98 (SPrint (plain_place place) (plain_place call)) (plain_operand operand) (option_map plain body.old)) }
 {
     match operand {
@@ -199,10 +216,15 @@ fn print_in(body: &mut Option<Module>, place: Place, call: Place, operand: Opera
 fn assignment_kept(kept: &mut Kept) -> Result<(), AllocError>
     ensures { OnOk result (plain_kept kept.new ≡ perform Assign (plain_kept kept.old)) }
 {
-    let (Some(_), Some(_), Some(token)) = (kept.tokens.pop(), kept.tokens.pop(), kept.tokens.pop()) else {
+    let (Some(_), Some(_), Some(token)) = (kept.tokens.pop(), kept.tokens.pop(), kept.tokens.pop())
+    else {
         return Err(AllocError);
     };
-    let Token { place, kind: TokenKind::Name(name) } = token else {
+    let Token {
+        place,
+        kind: TokenKind::Name(name),
+    } = token
+    else {
         return Err(AllocError);
     };
     let Some(operand) = kept.operands.pop() else {
