@@ -1,7 +1,7 @@
 -- The names that a module binds (Python reference, "Naming and binding").
 use Rattle.std.specs.Prelude.{List, [], ◌∷◌, if◌then◌else◌}
 use Rattle.py_meaning.specs.Name.{Name}
-use Rattle.py_meaning.specs.Tree.{Expr, Stmt, SAssign, SPrint, Body, none, more}
+use Rattle.py_meaning.specs.Tree.{SAssign, SPrint, Body, none, more}
 use Rattle.py_meaning.specs.Rules.{has_name}
 
 -- the names that a body binds and that are not among these, each once, in the order of their first bindings

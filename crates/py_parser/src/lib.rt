@@ -1,5 +1,7 @@
 //! Reads a Python module: its tokens, its tree, and the rule on reads.
 #![tactic(auto)]
 
+mod parser;
+pub mod table;
 pub mod token;
 pub mod tree;

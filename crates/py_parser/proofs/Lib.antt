@@ -1,0 +1,5 @@
+pub mod Stacks
+pub mod Rows
+pub mod Bounds
+pub mod Turns
+pub mod Starts
