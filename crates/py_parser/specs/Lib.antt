@@ -1,2 +1,4 @@
 pub mod PlainTokens
 pub mod PlainTrees
+pub mod Marks
+pub mod Wanted

@@ -1,0 +1,6 @@
+pub mod MarkLemmas
+pub mod TokenLemmas
+pub mod WantedLemmas
+pub mod TokenSteps
+pub mod TokenWanted
+pub mod WholeLemmas
