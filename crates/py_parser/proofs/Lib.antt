@@ -4,3 +4,4 @@ pub mod WantedLemmas
 pub mod TokenSteps
 pub mod TokenWanted
 pub mod WholeLemmas
+pub mod ReadLemmas

@@ -2,5 +2,6 @@
 #![tactic(auto)]
 
 mod lexer;
+mod rules;
 pub mod token;
 pub mod tree;
