@@ -1,1 +1,6 @@
+pub mod TableSets
+pub mod SpellingDerived
+pub mod TableSpelling
+pub mod TableLaws
+pub mod TableVectors
 mod LexerVectors

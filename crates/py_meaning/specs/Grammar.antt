@@ -1,8 +1,8 @@
 -- How tokens spell a tree: one case for each form of the tree. `Is.. tree ts rest` says that from ts on this tree is
 -- spelt, and that rest comes behind it.
-use Rattle.std.specs.Prelude.{◌≡◌, ℕ, zero, suc, ◌≤◌, List, [], ◌∷◌}
-use Rattle.py_meaning.specs.Token.{Place, Mark, Equals, Plus, Minus, Star, Open, Close, Kind, TName, TNumber, TPrint, TMark, TNewline, Token, At}
-use Rattle.py_meaning.specs.Tree.{Unary, Negative, Binary, Add, Subtract, Multiply, Expr, EName, ENumber, EUnary, EBinary, Stmt, SAssign, SPrint, Body, none, more}
+use Rattle.std.specs.Prelude.{◌≡◌, ℕ, suc, ◌≤◌, List, [], ◌∷◌}
+use Rattle.py_meaning.specs.Token.{Place, Mark, Equals, Plus, Minus, Star, Open, Close, TName, TNumber, TPrint, TMark, TNewline, Token, At}
+use Rattle.py_meaning.specs.Tree.{Binary, Add, Subtract, Multiply, Expr, EName, ENumber, EUnary, EBinary, Stmt, SAssign, SPrint, Body, none, more}
 
 -- how tightly an operator binds: sums are level 0, products level 1, and items level 2
 abbrev pub level_of : Binary → ℕ

@@ -7,3 +7,5 @@ pub mod Lexer
 pub mod Value
 pub mod Program
 pub mod Machine
+pub mod Binding
+pub mod Table

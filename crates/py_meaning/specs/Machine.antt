@@ -3,12 +3,12 @@
 -- the items of its parts in the order of their evaluation and by one that finishes; that one takes its operands from the
 -- stack of values.
 use Rattle.std.specs.Prelude.{ℕ, pos, List, [], ◌∷◌, ◌++◌, Option, Some, None, codes}
-use Rattle.runs.specs.Run.{Ending, Done, Raised, Wrong, Next, Goes, Ends, Machine}
+use Rattle.runs.specs.Run.{Done, Raised, Wrong, Next, Goes, Ends, Machine}
 use Rattle.runs.specs.FiniteMap.{Map, nothing, put}
 use Rattle.py_meaning.specs.Name.{Name, text_of}
 use Rattle.py_meaning.specs.Tree.{Unary, Binary, Expr, EName, ENumber, EUnary, EBinary, Stmt, SAssign, SPrint, Body, none, more}
 use Rattle.py_meaning.specs.Value.{Value, number_value, unary_value, binary_value, text_of_value}
-use Rattle.py_meaning.specs.Program.{Module, Program, Global, In, same_global}
+use Rattle.py_meaning.specs.Program.{Program, Global, In, same_global}
 
 pub data Item : Type 0 where
   -- trees that are still to do

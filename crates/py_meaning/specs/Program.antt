@@ -1,5 +1,5 @@
 -- A program: its modules, the main one first, and the width of its whole numbers.
-use Rattle.std.specs.Prelude.{ℕ, List, Bool, ◌==◌, ◌&&◌}
+use Rattle.std.specs.Prelude.{ℕ, Bool, ◌==◌, ◌&&◌}
 use Rattle.runs.specs.Number.{Width}
 use Rattle.py_meaning.specs.Name.{Name, same_name}
 use Rattle.py_meaning.specs.Tree.{Body}

@@ -5,3 +5,5 @@ pub mod TokenSteps
 pub mod TokenWanted
 pub mod WholeLemmas
 pub mod ReadLemmas
+pub mod Stacks
+pub mod Rows

@@ -3,3 +3,6 @@ pub mod PlainTrees
 pub mod Marks
 pub mod Wanted
 pub mod Reads
+pub mod PlainTable
+pub mod Bounded
+pub mod PlainKept

@@ -2,6 +2,8 @@
 #![tactic(auto)]
 
 mod lexer;
+mod parser;
 mod rules;
+pub mod table;
 pub mod token;
 pub mod tree;

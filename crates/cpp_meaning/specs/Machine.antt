@@ -1,0 +1,208 @@
+-- The C++ machine. Cells carry no tag: each operation is picked by declared types (ISO C++, "Expressions"; signed
+-- arithmetic wraps, as `-fwrapv` has it). The rows are the support library.
+use Rattle.std.specs.Prelude.{ℕ, ℤ, pos, ◌+ℤ◌, ◌-ℤ◌, ◌*ℤ◌, List, [], ◌∷◌, ◌++◌, Option, Some, None, if◌then◌else◌}
+use Rattle.runs.specs.Number.{W32, wrapped, decimal_of}
+use Rattle.runs.specs.Run.{Done, Next, Goes, Ends, Machine}
+use Rattle.runs.specs.FiniteMap.{Map, nothing, put}
+use Rattle.cpp_meaning.specs.Tree.{Identifier, same_identifier, CppType, Int32, Text, Zero, ZeroNumber, NullPointer, Operator, Plus, Minus, Times, Expr, Named, Number, Literal, Operate, Negate, Row, TextOf, Write, Value, Operand, CallRow, Stmt, Declare, Assign, Perform, Block, none, more, Definition, Variable, Body, Main, Program, sources_of}
+use Rattle.cpp_meaning.specs.Typing.{Types, inner_first, in_scope, type_of, types_of, global_types, mains}
+
+-- what a variable holds
+pub data Cell : Type 0 where
+  Word : (word : ℤ) → Cell
+  -- a pointer to a text that never changes, so it is the text
+  Characters : (text : List ℕ) → Cell
+  Reference : (object : ℕ) → Cell
+  Null : Cell
+
+abbrev pub Cells : Type 0
+Cells = Map Identifier Cell
+
+-- the cell as a number: a well-typed program reads one only where one was stored
+abbrev pub word_of : Cell → ℤ
+word_of (Word z) = z
+word_of (Characters t) = pos 0
+word_of (Reference n) = pos 0
+word_of Null = pos 0
+
+abbrev pub characters_of : Cell → List ℕ
+characters_of (Word z) = []
+characters_of (Characters t) = t
+characters_of (Reference n) = []
+characters_of Null = []
+
+abbrev pub held : Option Cell → Cell
+held None = Null
+held (Some c) = c
+
+abbrev pub zero_cell : Zero → Cell
+zero_cell ZeroNumber = Word (pos 0)
+zero_cell NullPointer = Null
+
+abbrev pub arithmetic : Operator → ℤ → ℤ → ℤ
+arithmetic Plus a b = a +ℤ b
+arithmetic Minus a b = a -ℤ b
+arithmetic Times a b = a *ℤ b
+
+-- an operator, picked by the type of its operands
+abbrev pub operate : Option CppType → Operator → Cell → Cell → Cell
+operate (Some Int32) o a b = Word (wrapped W32 (arithmetic o (word_of a) (word_of b)))
+operate (Some Text) o a b = Null
+operate None o a b = Null
+
+abbrev pub evaluate : Types → Cells → Expr → Cell
+evaluate types cells (Named x) = held (cells x)
+evaluate types cells (Number n) = Word (wrapped W32 (pos n))
+evaluate types cells (Literal t) = Characters t
+evaluate types cells (Operate o a b) = operate (type_of types a) o (evaluate types cells a) (evaluate types cells b)
+evaluate types cells (Negate e) = operate (type_of types e) Minus (Word (pos 0)) (evaluate types cells e)
+
+abbrev pub evaluate_all : Types → Cells → List Expr → List Cell
+evaluate_all types cells [] = []
+evaluate_all types cells (e ∷ es) = evaluate types cells e ∷ evaluate_all types cells es
+
+-- the text of a cell of a type
+abbrev pub text_of_cell : CppType → Cell → List ℕ
+text_of_cell Int32 c = decimal_of (word_of c)
+text_of_cell Text c = characters_of c
+
+pub record Frame : Type 0 where
+  pub control : List Block
+  -- the locals that have been declared
+  pub types : Types
+  pub cells : Cells
+
+pub record World : Type 0 where
+  pub globals : Cells
+  pub input : List ℕ
+  pub output : List ℕ
+
+pub record Moment : Type 0 where
+  pub frames : List Frame
+  pub world : World
+
+-- the frame that is run, without the block that the step looks at
+pub record Here : Type 0 where
+  pub frame : Frame
+  pub below : List Frame
+  pub world : World
+
+abbrev pub types_here : Program → Here → Types
+types_here P h = in_scope h.frame.types (global_types P)
+
+abbrev pub cells_here : Here → Cells
+cells_here h x = inner_first (h.frame.cells x) (h.world.globals x)
+
+-- goes on with this block in front of what is left
+abbrev pub go : Here → List Block → Next Moment
+go h blocks =
+    Goes (record {
+      frames = record { control = blocks ++ h.frame.control; types = h.frame.types; cells = h.frame.cells } ∷ h.below;
+      world = h.world;
+    })
+
+abbrev pub with_local : Here → Identifier → Cell → Here
+with_local h x c =
+    record {
+      frame = record { control = h.frame.control; types = h.frame.types; cells = put same_identifier h.frame.cells x c };
+      below = h.below;
+      world = h.world;
+    }
+
+abbrev pub with_global : Here → Identifier → Cell → Here
+with_global h x c =
+    record {
+      frame = h.frame;
+      below = h.below;
+      world = record { globals = put same_identifier h.world.globals x c; input = h.world.input; output = h.world.output };
+    }
+
+-- a new local of a type
+abbrev pub with_declared : Here → CppType → Identifier → Cell → Here
+with_declared h t x c =
+    record {
+      frame = record { control = h.frame.control; types = put same_identifier h.frame.types x t; cells = put same_identifier h.frame.cells x c };
+      below = h.below;
+      world = h.world;
+    }
+
+abbrev pub with_written : Here → List ℕ → Here
+with_written h text =
+    record {
+      frame = h.frame;
+      below = h.below;
+      world = record { globals = h.world.globals; input = h.world.input; output = h.world.output ++ text };
+    }
+
+-- a variable that is a local of the frame, or else a global, takes a cell
+abbrev pub store : Option CppType → Here → Identifier → Cell → Here
+store (Some t) h x c = with_local h x c
+store None h x c = with_global h x c
+
+-- what a row gives, and what it writes, by the types of its operands
+abbrev pub row_cell : Row → List (Option CppType) → List Cell → Cell
+row_cell TextOf (Some t ∷ []) (c ∷ []) = Characters (text_of_cell t c)
+row_cell _ _ _ = Null
+
+abbrev pub row_writes : Row → List (Option CppType) → List Cell → List ℕ
+row_writes Write (Some t ∷ []) (c ∷ []) = text_of_cell t c
+row_writes _ _ _ = []
+
+abbrev pub value_cell : Types → Cells → Value → Cell
+value_cell types cells (Operand e) = evaluate types cells e
+value_cell types cells (CallRow row es) = row_cell row (types_of types es) (evaluate_all types cells es)
+
+abbrev pub value_writes : Types → Cells → Value → List ℕ
+value_writes types cells (Operand e) = []
+value_writes types cells (CallRow row es) = row_writes row (types_of types es) (evaluate_all types cells es)
+
+-- what a statement does, where this block comes after it
+abbrev pub act : Program → Stmt → Block → Here → Next Moment
+act P (Declare t x z) rest h = go (with_declared h t x (zero_cell z)) (rest ∷ [])
+act P (Assign x v) rest h =
+    go (store (h.frame.types x) (with_written h (value_writes (types_here P h) (cells_here h) v)) x (value_cell (types_here P h) (cells_here h) v)) (rest ∷ [])
+act P (Perform v) rest h = go (with_written h (value_writes (types_here P h) (cells_here h) v)) (rest ∷ [])
+
+abbrev pub step_block : Program → Block → Here → Next Moment
+step_block P none h = go h []
+step_block P (more s rest) h = act P s rest h
+
+-- a body that is over leaves its frame
+abbrev pub step_in : Program → List Block → Here → Next Moment
+step_in P [] h = Goes (record { frames = h.below; world = h.world })
+step_in P (block ∷ control) h =
+    step_block P block (record { frame = record { control = control; types = h.frame.types; cells = h.frame.cells }; below = h.below; world = h.world })
+
+abbrev pub step_of : Program → List Frame → World → Next Moment
+step_of P [] world = Ends Done
+step_of P (frame ∷ below) world = step_in P frame.control (record { frame = frame; below = below; world = world })
+
+abbrev pub machine : Program → Machine Moment
+machine P = record { step = λ m. step_of P m.frames m.world; output = λ m. m.world.output }
+
+-- the block of the body of this name
+abbrev pub block_in : List Definition → Identifier → Block
+block_in [] x = none
+block_in (Variable t y z ∷ items) x = block_in items x
+block_in (Body y block ∷ items) x = if same_identifier y x then block else block_in items x
+block_in (Main y ∷ items) x = block_in items x
+
+-- each global variable has its first value before `main` runs
+abbrev pub first_cells : List Definition → Cells
+first_cells [] = nothing
+first_cells (Variable t x z ∷ items) = put same_identifier (first_cells items) x (zero_cell z)
+first_cells (Body x block ∷ items) = first_cells items
+first_cells (Main x ∷ items) = first_cells items
+
+abbrev pub started : List Definition → List Identifier → Block
+started items [] = none
+started items (x ∷ others) = block_in items x
+
+-- `main` is about to run the body that it starts
+abbrev pub start : Program → List ℕ → Moment
+start P input =
+    let items = sources_of P.modules in
+    record {
+      frames = record { control = started items (mains items) ∷ []; types = nothing; cells = nothing } ∷ [];
+      world = record { globals = first_cells items; input = input; output = [] };
+    }

@@ -1,0 +1,11 @@
+pub mod Alike
+pub mod Steps
+pub mod Bools
+pub mod Sets
+pub mod Rows
+pub mod Sound
+pub mod Complete
+pub mod Chains
+pub mod Completions
+pub mod Longest
+pub mod Toy

@@ -1,0 +1,5 @@
+pub mod Grammar
+pub mod Derivation
+pub mod Sets
+pub mod Run
+pub mod Laws

@@ -1,0 +1,38 @@
+//! Grammars as data: rows of symbols, derivations, and the run with one token of sight.
+//!
+//! A table gives each nonterminal its rows, and nullable, first and follow sets with it. Tests that compute
+//! (`specs/Sets.antt`) say that the sets are closed and tell the rows apart; the laws below then hold of the table.
+//! They are functions without a body, since a law is proved only where a contract names it.
+#![tactic(auto)]
+
+ghost use Rattle.grammars.specs.Laws.{Sound, Complete, OneValue, Longest, Begins, Completable};
+
+/// What is run to its end is derived.
+pub fn run_is_sound<N, A, T, V>()
+    ensures law { Sound N A T V }
+{}
+
+/// What is derived is run to its end.
+pub fn run_is_complete<N, A, T, V>()
+    ensures law { Complete N A T V }
+{}
+
+/// A sentence has one value.
+pub fn sentence_has_one_value<N, A, T, V>()
+    ensures law { OneValue N A T V }
+{}
+
+/// A run that is stuck has read the longest front of a sentence.
+pub fn stuck_run_has_longest_front<N, A, T, V>()
+    ensures law { Longest N A T V }
+{}
+
+/// Sets that pass the test are nullable and first sets.
+pub fn closed_sets_are_right<N, A, T, V>()
+    ensures law { Begins N A T V }
+{}
+
+/// Symbols that pass the test derive something from each value.
+pub fn symbols_derive_something<N, A, T, V>()
+    ensures law { Completable N A T V }
+{}

@@ -1,0 +1,166 @@
+//! The grammar as a table: which symbols stand for a nonterminal, by the kind of the next token.
+
+ghost use Rattle.std.specs.Prelude.{◌≡◌, ◌==◌};
+ghost use Rattle.std.specs.Option.{option_copied};
+ghost use Rattle.py_parser.specs.PlainTable.{number, kind_of_token, row_of};
+
+use crate::token::{Mark, Token, TokenKind};
+
+/// What a token is, without what it has.
+#[derive(Clone, Copy, Debug, PartialEq, Eq)]
+pub enum Kind {
+    Name,
+    Number,
+    Print,
+    Equals,
+    Plus,
+    Minus,
+    Star,
+    Open,
+    Close,
+    Newline,
+}
+
+#[derive(Clone, Copy, Debug, PartialEq, Eq)]
+pub enum Nonterminal {
+    Statements,
+    Statement,
+    Sum,
+    SumTail,
+    Term,
+    TermTail,
+    Item,
+}
+
+/// What is done between symbols, to build a tree.
+#[derive(Clone, Copy, Debug, PartialEq, Eq)]
+pub enum Action {
+    Leaf,
+    Negate,
+    Join,
+    Assign,
+    Print,
+}
+
+#[derive(Clone, Copy, Debug, PartialEq, Eq)]
+pub enum Symbol {
+    /// A token of this kind.
+    Read(Kind),
+    Expand(Nonterminal),
+    Do(Action),
+}
+
+use Action::{Assign, Join, Leaf, Negate};
+use Nonterminal::{Item, Statement, Statements, Sum, SumTail, Term, TermTail};
+use Symbol::{Do, Expand, Read};
+
+const NOTHING: &[Symbol] = &[];
+const MORE_STATEMENTS: &[Symbol] = &[Expand(Statement), Expand(Statements)];
+const ASSIGNMENT: &[Symbol] = &[
+    Read(Kind::Name),
+    Read(Kind::Equals),
+    Expand(Sum),
+    Read(Kind::Newline),
+    Do(Assign),
+];
+const PRINTING: &[Symbol] = &[
+    Read(Kind::Print),
+    Read(Kind::Open),
+    Expand(Sum),
+    Read(Kind::Close),
+    Read(Kind::Newline),
+    Do(Action::Print),
+];
+const SUM: &[Symbol] = &[Expand(Term), Expand(SumTail)];
+const ADDITION: &[Symbol] = &[Read(Kind::Plus), Expand(Term), Do(Join), Expand(SumTail)];
+const SUBTRACTION: &[Symbol] = &[Read(Kind::Minus), Expand(Term), Do(Join), Expand(SumTail)];
+const TERM: &[Symbol] = &[Expand(Item), Expand(TermTail)];
+const MULTIPLICATION: &[Symbol] = &[Read(Kind::Star), Expand(Item), Do(Join), Expand(TermTail)];
+const NAME: &[Symbol] = &[Read(Kind::Name), Do(Leaf)];
+const NUMBER: &[Symbol] = &[Read(Kind::Number), Do(Leaf)];
+const NEGATION: &[Symbol] = &[Read(Kind::Minus), Expand(Item), Do(Negate)];
+
+/// The number that the grammar's definition gives a kind.
+fn number_of(kind: Kind) -> u8
+    ensures { result ≡ number kind }
+{
+    match kind {
+        Kind::Name => 1,
+        Kind::Number => 2,
+        Kind::Print => 3,
+        Kind::Equals => 4,
+        Kind::Plus => 5,
+        Kind::Minus => 6,
+        Kind::Star => 7,
+        Kind::Open => 8,
+        Kind::Close => 9,
+        Kind::Newline => 10,
+    }
+}
+
+/// Whether two kinds are one.
+pub fn is_same(one: Kind, other: Kind) -> bool
+    ensures { result ≡ (number one == number other) }
+{
+    number_of(one) == number_of(other)
+}
+
+pub fn kind_of(token: &Token) -> Kind
+    ensures { result ≡ kind_of_token token.now }
+{
+    match &token.kind {
+        TokenKind::Name(_) => Kind::Name,
+        TokenKind::Number(_) => Kind::Number,
+        TokenKind::Print => Kind::Print,
+        TokenKind::Mark(Mark::Equals) => Kind::Equals,
+        TokenKind::Mark(Mark::Plus) => Kind::Plus,
+        TokenKind::Mark(Mark::Minus) => Kind::Minus,
+        TokenKind::Mark(Mark::Star) => Kind::Star,
+        TokenKind::Mark(Mark::Open) => Kind::Open,
+        TokenKind::Mark(Mark::Close) => Kind::Close,
+        TokenKind::Newline => Kind::Newline,
+    }
+}
+
+/// The symbols that take the place of a nonterminal before a token of this kind, or before the end.
+pub fn row_at(nonterminal: Nonterminal, sight: Option<Kind>) -> Option<&'static [Symbol]>
+    ensures { option_copied result ≡ row_of nonterminal sight }
+{
+    match nonterminal {
+        Statements => match sight {
+            None => Some(NOTHING),
+            Some(Kind::Name | Kind::Print) => Some(MORE_STATEMENTS),
+            Some(_) => None,
+        },
+        Statement => match sight {
+            Some(Kind::Name) => Some(ASSIGNMENT),
+            Some(Kind::Print) => Some(PRINTING),
+            _ => None,
+        },
+        Sum => match sight {
+            Some(Kind::Name | Kind::Number | Kind::Minus) => Some(SUM),
+            _ => None,
+        },
+        SumTail => match sight {
+            Some(Kind::Plus) => Some(ADDITION),
+            Some(Kind::Minus) => Some(SUBTRACTION),
+            Some(Kind::Close | Kind::Newline) => Some(NOTHING),
+            _ => None,
+        },
+        Term => match sight {
+            Some(Kind::Name | Kind::Number | Kind::Minus) => Some(TERM),
+            _ => None,
+        },
+        TermTail => match sight {
+            Some(Kind::Star) => Some(MULTIPLICATION),
+            Some(Kind::Plus | Kind::Minus | Kind::Close | Kind::Newline) => Some(NOTHING),
+            _ => None,
+        },
+        Item => match sight {
+            Some(Kind::Name) => Some(NAME),
+            Some(Kind::Number) => Some(NUMBER),
+            Some(Kind::Minus) => Some(NEGATION),
+            _ => None,
+        },
+    }
+}

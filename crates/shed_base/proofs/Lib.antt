@@ -1,0 +1,5 @@
+pub mod FaultCounts
+pub mod Lists
+pub mod LogSearch
+pub mod ToldBytes
+pub mod WrittenFiles

@@ -1,0 +1,4 @@
+pub mod EmittedName
+pub mod Layout
+pub mod Table
+pub mod Headline
