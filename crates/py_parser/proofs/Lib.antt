@@ -7,3 +7,6 @@ pub mod WholeLemmas
 pub mod ReadLemmas
 pub mod Stacks
 pub mod Rows
+pub mod Bounds
+pub mod Turns
+pub mod Starts

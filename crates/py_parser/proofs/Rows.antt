@@ -1,5 +1,5 @@
 -- The code's table is the grammar's.
-use Rattle.std.proofs.Common.{◌≡◌, ℕ, List, [], ◌∷◌, refl, sym, ap, ◌∙◌, Option, Some, None}
+use Rattle.std.proofs.Common.{◌≡◌, List, [], ◌∷◌, refl, sym, ap, ◌∙◌, Option, Some, None}
 use Rattle.std.specs.Option.{option_map}
 use Rattle.grammars.specs.Grammar.{sight}
 use Rattle.py_meaning.specs.Table.{table, kind_of}

@@ -1,13 +1,11 @@
 -- Stacks whose top is at the end.
-use Rattle.std.proofs.Common.{◌≡◌, ℕ, zero, suc, ◌-◌, ◌<◌, ◌≤◌, List, [], ◌∷◌, ◌++◌, map, reverse, length, drop, get_or, drop-cons, arith, refl, sym, ap, ◌∙◌}
+use Rattle.std.proofs.Common.{◌≡◌, ℕ, zero, suc, ◌-◌, ◌<◌, ◌≤◌, List, [], ◌∷◌, ◌++◌, map, reverse, length, drop, get_or, drop-cons, arith, refl, ap}
 use Rattle.std.proofs.lemmas.List.{reverse-append}
-use Rattle.py_meaning.specs.Token as meaning
 use Rattle.py_meaning.specs.Table as table
 use Rattle.py_meaning.specs.Table.{add_behind}
 use Rattle.py_meaning.specs.Tree.{more}
 use Rattle.py_parser.specs.PlainTrees.{plain_stmt, plain_body}
 use Rattle.py_parser.specs.declared.tree.Stmt.{Stmt}
-use Rattle.py_parser.specs.Bounded as bounded
 use Rattle.py_parser.specs.PlainTokens.{plain_token, plain_tokens}
 use Rattle.py_parser.specs.PlainTable.{plain_symbol, plain_symbols}
 use Rattle.py_parser.specs.PlainKept.{plain_operand, tokens_of, operands_of, stack_of}

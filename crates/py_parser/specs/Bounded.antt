@@ -1,12 +1,12 @@
 -- The grammar with values that stay small: in place of an expression that is higher than a node may be deep, there is a
 -- mark, and in place of a module that nests too much there is nothing.
-use Rattle.std.specs.Prelude.{ℕ, suc, max, Bool, nat_lt, nat_le, cond, ◌==◌, List, [], ◌∷◌, ◌++◌, if◌then◌else◌, Option, Some, None}
+use Rattle.std.specs.Prelude.{ℕ, suc, max, nat_lt, nat_le, ◌==◌, List, [], ◌∷◌, ◌++◌, if◌then◌else◌, Option, Some, None}
 use Rattle.std.specs.Option.{option_map}
 use Rattle.grammars.specs.Grammar.{Tok, Non, Do, Always, Row, Grammar, Sight, sight}
 use Rattle.grammars.specs.Run.{pick}
 use Rattle.py_meaning.specs.Rules.{most_ancestors}
-use Rattle.py_meaning.specs.Token.{Place, Kind, TName, TNumber, Token, At}
-use Rattle.py_meaning.specs.Tree.{Negative, Binary, Expr, EName, ENumber, EUnary, EBinary, Stmt, SAssign, SPrint, Body, none, more}
+use Rattle.py_meaning.specs.Token.{Place, TName, TNumber, Token, At}
+use Rattle.py_meaning.specs.Tree.{Negative, Binary, Expr, EName, ENumber, EUnary, EBinary, Stmt, SAssign, SPrint, Body, none}
 use Rattle.py_meaning.specs.Table.{Nonterminal, Action, Leaf, Negate, Join, Assign, Print, Symbol, kind_of, operator_of, add_behind, table, sets, start}
 
 pub data Operand : Type 0 where
@@ -88,7 +88,7 @@ row_for x s = option_map (λ r. r.symbols) (pick bounded sets x kept_at_start s)
 -- one step of the run
 pub data Step : Type 0 where
   Going : (symbols : List Symbol) → (value : Kept) → (rest : List Token) → Step
-  Finished : Step
+  Finished : (value : Kept) → Step
   Halted : Step
 
 abbrev pub expanded : Option (List Symbol) → List Symbol → Kept → List Token → Step
@@ -96,7 +96,7 @@ expanded None symbols v ts = Halted
 expanded (Some row) symbols v ts = Going (row ++ symbols) v ts
 
 abbrev pub one_step : List Symbol → Kept → List Token → Step
-one_step [] v [] = Finished
+one_step [] v [] = Finished v
 one_step [] v (t ∷ ts) = Halted
 one_step (Tok k ∷ symbols) v [] = Halted
 one_step (Tok k ∷ symbols) v (t ∷ ts) = if kind_of t == k then Going symbols (keep t v) ts else Halted

@@ -6,3 +6,4 @@ pub mod Reads
 pub mod PlainTable
 pub mod Bounded
 pub mod PlainKept
+pub mod Parsed

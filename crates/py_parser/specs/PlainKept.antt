@@ -1,13 +1,12 @@
 -- What the parser keeps, as the plain values of Bounded.antt: its stacks have their tops at the end.
-use Rattle.std.specs.Prelude.{◌≡◌, List, [], ◌∷◌, ◌++◌, map, reverse, Option, Some, None}
+use Rattle.std.specs.Prelude.{List, [], ◌∷◌, map, reverse, Option, Some, None}
 use Rattle.std.specs.Option.{option_map}
-use Rattle.std.proofs.Common.{ap, sym, ◌∙◌, refl}
 use Rattle.py_meaning.specs.Token as meaning
 use Rattle.py_meaning.specs.Table as table
 use Rattle.py_parser.specs.Bounded as bounded
-use Rattle.py_parser.specs.PlainTokens.{plain_token, plain_tokens}
+use Rattle.py_parser.specs.PlainTokens.{plain_tokens}
 use Rattle.py_parser.specs.PlainTrees.{plain_expr, plain}
-use Rattle.py_parser.specs.PlainTable.{plain_symbol, plain_symbols, kind_of_token}
+use Rattle.py_parser.specs.PlainTable.{plain_symbols, kind_of_token}
 use Rattle.py_parser.specs.declared.table.Kind.{Kind}
 use Rattle.py_parser.specs.declared.table.Symbol.{Symbol}
 use Rattle.py_parser.specs.declared.token.Token.{Token}
@@ -37,14 +36,10 @@ plain_kept kept = record { tokens = tokens_of kept.tokens.items; operands = oper
 -- what a step has come to, with these symbols and this value left
 abbrev pub plain_next : Next → List table.Symbol → bounded.Kept → bounded.Step
 plain_next (next.Goes rest) symbols kept = bounded.Going symbols kept (plain_tokens rest.now)
-plain_next next.Done symbols kept = bounded.Finished
+plain_next next.Done symbols kept = bounded.Finished kept
 plain_next next.Stuck symbols kept = bounded.Halted
 
 -- the kind of the next token
 abbrev pub sight_of : List Token → Option Kind
 sight_of [] = None
 sight_of (t ∷ rest) = Some (kind_of_token t)
-
--- the state before a step, as Bounded.antt steps from it
-abbrev pub stepped : List Symbol → Kept → List Token → bounded.Step
-stepped symbols kept rest = bounded.one_step (stack_of symbols) (plain_kept kept) (plain_tokens rest)

@@ -1,6 +1,6 @@
 -- The code's table as the grammar's.
-use Rattle.std.specs.Prelude.{◌≡◌, ℕ, List, [], ◌∷◌, map, Option, Some, None}
-use Rattle.grammars.specs.Grammar.{Sym, Tok, Non, Do}
+use Rattle.std.specs.Prelude.{ℕ, List, [], ◌∷◌, map, Option, Some, None}
+use Rattle.grammars.specs.Grammar.{Tok, Non, Do}
 use Rattle.py_meaning.specs.Table as meaning
 use Rattle.py_parser.specs.declared.token.Mark.TheVariants as mark
 use Rattle.py_parser.specs.declared.token.TokenKind.{TokenKind}

@@ -5,12 +5,13 @@ ghost use Rattle.std.specs.Option.{option_map};
 ghost use Rattle.py_meaning.specs.Tree.{SAssign, SPrint};
 ghost use Rattle.py_meaning.specs.Table.{Leaf, Negate, Join, Assign, Print, add_behind};
 ghost use Rattle.py_meaning.specs.Table.{operator_of, Symbol as PlainSymbol};
-ghost use Rattle.grammars.specs.Grammar.{Tok};
+ghost use Rattle.grammars.specs.Grammar.{Tok, Non};
 ghost use Rattle.py_parser.specs.PlainTokens.{plain_token, plain_tokens, plain_place, plain_kind};
 ghost use Rattle.py_parser.specs.PlainTrees.{plain_expr, plain, plain_binary, plain_stmt};
-ghost use Rattle.py_parser.specs.PlainTable.{plain_symbols, plain_action, number};
+ghost use Rattle.py_parser.specs.PlainTable.{plain_symbols, plain_action, plain_nonterminal, number};
 ghost use Rattle.py_parser.specs.PlainKept.{plain_operand, plain_kept, plain_next, stack_of, sight_of};
-ghost use Rattle.py_parser.specs.Bounded.{negated, joined, stated, perform, one_step, keep};
+ghost use Rattle.py_parser.specs.Bounded.{Kept as PlainValue, negated, joined, stated, perform, one_step, keep};
+ghost use Rattle.py_parser.specs.Parsed.{IsParsed};
 
 use crate::table::{Action, Kind, Nonterminal, Symbol, is_same, kind_of, row_at};
 use crate::token::{Mark, Place, Token, TokenKind};
@@ -71,7 +72,10 @@ fn negated_operand(alloc: Global, place: Place, operand: Operand) -> Result<Oper
         Operand::Known(height, expr) => {
             if height < MOST_ANCESTORS {
                 let inner = Boxed::new(alloc, expr)?;
-                Ok(Operand::Known(height + 1, Expr::Unary(place, UnaryOperator::Negative, inner)))
+                Ok(Operand::Known(
+                    height + 1,
+                    Expr::Unary(place, UnaryOperator::Negative, inner),
+                ))
             } else {
                 Ok(Operand::TooHigh)
             }
@@ -123,8 +127,12 @@ fn leaf_kept(kept: &mut Kept) -> Result<(), AllocError>
         return Err(AllocError);
     };
     match kind {
-        TokenKind::Name(name) => kept.operands.push(Operand::Known(0, Expr::Name(place, name)))?,
-        TokenKind::Number(value) => kept.operands.push(Operand::Known(0, Expr::Number(place, value)))?,
+        TokenKind::Name(name) => kept
+            .operands
+            .push(Operand::Known(0, Expr::Name(place, name)))?,
+        TokenKind::Number(value) => kept
+            .operands
+            .push(Operand::Known(0, Expr::Number(place, value)))?,
         _ => return Err(AllocError),
     }
     Ok(())
@@ -169,7 +177,12 @@ fn add_statement(body: &mut Option<Module>, statement: Stmt) -> Result<(), Alloc
 }
 
 /// Adds an assignment, if its expression may stand there.
-fn assign_in(body: &mut Option<Module>, place: Place, name: String, operand: Operand) -> Result<(), AllocError>
+fn assign_in(
+    body: &mut Option<Module>,
+    place: Place,
+    name: String,
+    operand: Operand,
+) -> Result<(), AllocError>
     ensures { OnOk result (option_map plain body.new ≡ stated 99 (SAssign (plain_place place) (string_bytes name)) (plain_operand operand) (option_map plain body.old)) }
 {
     match operand {
@@ -182,7 +195,12 @@ fn assign_in(body: &mut Option<Module>, place: Place, name: String, operand: Ope
 }
 
 /// Adds a call of `print`, if its expression may stand there.
-fn print_in(body: &mut Option<Module>, place: Place, call: Place, operand: Operand) -> Result<(), AllocError>
+fn print_in(
+    body: &mut Option<Module>,
+    place: Place,
+    call: Place,
+    operand: Operand,
+) -> Result<(), AllocError>
     ensures { OnOk result (option_map plain body.new ≡ stated 98 (SPrint (plain_place place) (plain_place call)) (plain_operand operand) (option_map plain body.old)) }
 {
     match operand {
@@ -198,10 +216,15 @@ fn print_in(body: &mut Option<Module>, place: Place, call: Place, operand: Opera
 fn assignment_kept(kept: &mut Kept) -> Result<(), AllocError>
     ensures { OnOk result (plain_kept kept.new ≡ perform Assign (plain_kept kept.old)) }
 {
-    let (Some(_), Some(_), Some(token)) = (kept.tokens.pop(), kept.tokens.pop(), kept.tokens.pop()) else {
+    let (Some(_), Some(_), Some(token)) = (kept.tokens.pop(), kept.tokens.pop(), kept.tokens.pop())
+    else {
         return Err(AllocError);
     };
-    let Token { place, kind: TokenKind::Name(name) } = token else {
+    let Token {
+        place,
+        kind: TokenKind::Name(name),
+    } = token
+    else {
         return Err(AllocError);
     };
     let Some(operand) = kept.operands.pop() else {
@@ -280,4 +303,77 @@ fn read<'a>(kind: Kind, kept: &mut Kept, rest: &'a [Token]) -> Result<Next<'a>, 
     }
     keep_token(token, kept)?;
     Ok(Next::Goes(more))
+}
+
+/// Puts a row in place of a nonterminal.
+#[tactic(auto, using(crate::proofs::Rows::row_before))]
+fn expand<'a>(
+    nonterminal: Nonterminal,
+    symbols: &mut Vec<Symbol>,
+    rest: &'a [Token],
+) -> Result<Next<'a>, AllocError>
+    ensures { IfOk result (λ next. (kept : PlainValue) → plain_next next (stack_of symbols.new.items) kept ≡ one_step (Non (plain_nonterminal nonterminal) ∷ stack_of symbols.old.items) kept (plain_tokens rest.now)) }
+{
+    match row_at(nonterminal, sight(rest)) {
+        Some(row) => {
+            push_row(symbols, row)?;
+            Ok(Next::Goes(rest))
+        }
+        None => Ok(Next::Stuck),
+    }
+}
+
+/// With no symbol left, all must have been read.
+fn finish<'a>(rest: &'a [Token]) -> Next<'a>
+    ensures { (kept : PlainValue) (symbols : List PlainSymbol) → plain_next result symbols kept ≡ one_step [] kept (plain_tokens rest.now) }
+{
+    match rest.first() {
+        Some(_) => Next::Stuck,
+        None => Next::Done,
+    }
+}
+
+/// One step of the run.
+#[tactic(auto, using(crate::proofs::Stacks::stacks))]
+fn step<'a>(
+    alloc: Global,
+    symbols: &mut Vec<Symbol>,
+    kept: &mut Kept,
+    rest: &'a [Token],
+) -> Result<Next<'a>, AllocError>
+    ensures { IfOk result (λ next. plain_next next (stack_of symbols.new.items) (plain_kept kept.new) ≡ one_step (stack_of symbols.old.items) (plain_kept kept.old) (plain_tokens rest.now)) }
+{
+    match symbols.pop() {
+        None => Ok(finish(rest)),
+        Some(Symbol::Read(kind)) => read(kind, kept, rest),
+        Some(Symbol::Expand(nonterminal)) => expand(nonterminal, symbols, rest),
+        Some(Symbol::Do(action)) => {
+            act(alloc, action, kept)?;
+            Ok(Next::Goes(rest))
+        }
+    }
+}
+
+/// The tree of a module's tokens, if they have one that nests no more than it may.
+fn parse_tokens(alloc: Global, tokens: &[Token]) -> Result<Option<Module>, AllocError>
+    ensures { IfOk result (λ parsed. IsParsed (option_map plain parsed) (plain_tokens tokens.now)) }
+{
+    let mut symbols = Vec::new(alloc);
+    symbols.push(Symbol::Expand(Nonterminal::Statements))?;
+    let mut kept = Kept {
+        tokens: Vec::new(alloc),
+        operands: Vec::new(alloc),
+        body: Some(Module {
+            body: Items::new(alloc),
+        }),
+    };
+    let mut rest = tokens;
+    for _turn in 0..u64::MAX {
+        match step(alloc, &mut symbols, &mut kept, rest)? {
+            Next::Goes(more) => rest = more,
+            Next::Done => return Ok(kept.body),
+            Next::Stuck => return Ok(None),
+        }
+    }
+    Err(AllocError)
 }

@@ -55,7 +55,9 @@ use Nonterminal::{Item, Statement, Statements, Sum, SumTail, Term, TermTail};
 use Symbol::{Do, Expand, Read};
 
 const NOTHING: &[Symbol] = &[];
+
 const MORE_STATEMENTS: &[Symbol] = &[Expand(Statement), Expand(Statements)];
+
 const ASSIGNMENT: &[Symbol] = &[
     Read(Kind::Name),
     Read(Kind::Equals),
@@ -63,6 +65,7 @@ const ASSIGNMENT: &[Symbol] = &[
     Read(Kind::Newline),
     Do(Assign),
 ];
+
 const PRINTING: &[Symbol] = &[
     Read(Kind::Print),
     Read(Kind::Open),
@@ -71,13 +74,21 @@ const PRINTING: &[Symbol] = &[
     Read(Kind::Newline),
     Do(Action::Print),
 ];
+
 const SUM: &[Symbol] = &[Expand(Term), Expand(SumTail)];
+
 const ADDITION: &[Symbol] = &[Read(Kind::Plus), Expand(Term), Do(Join), Expand(SumTail)];
+
 const SUBTRACTION: &[Symbol] = &[Read(Kind::Minus), Expand(Term), Do(Join), Expand(SumTail)];
+
 const TERM: &[Symbol] = &[Expand(Item), Expand(TermTail)];
+
 const MULTIPLICATION: &[Symbol] = &[Read(Kind::Star), Expand(Item), Do(Join), Expand(TermTail)];
+
 const NAME: &[Symbol] = &[Read(Kind::Name), Do(Leaf)];
+
 const NUMBER: &[Symbol] = &[Read(Kind::Number), Do(Leaf)];
+
 const NEGATION: &[Symbol] = &[Read(Kind::Minus), Expand(Item), Do(Negate)];
 
 /// The number that the grammar's definition gives a kind.
