@@ -10,3 +10,4 @@ pub mod Rows
 pub mod Bounds
 pub mod Turns
 pub mod Starts
+pub mod OneReading

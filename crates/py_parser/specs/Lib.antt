@@ -7,3 +7,4 @@ pub mod PlainTable
 pub mod Bounded
 pub mod PlainKept
 pub mod Parsed
+pub mod Reading
