@@ -59,7 +59,8 @@ const LONGEST_NAME: usize = 1000;
 
 const LARGEST_NUMBER: u64 = 2147483647;
 
-fn is_name_part(b: u8) -> bool
+/// Whether a byte may stand in an ASCII name: a letter, a digit or `_`.
+pub fn is_name_part(b: u8) -> bool
     ensures { result ≡ spec.is_name_part b }
 {
     b.is_ascii_alphanumeric() || b == b'_'
@@ -78,7 +79,8 @@ fn run_len(text: &[u8]) -> usize
     text.len()
 }
 
-fn is_barred(word: &[u8]) -> bool
+/// Whether a word is a keyword of Python, or `__name__`: names that no module may bind.
+pub fn is_barred(word: &[u8]) -> bool
     ensures { result ≡ list_any (same_name word.now) spec.barred }
 {
     let mut words: &[&[u8]] = &BARRED;

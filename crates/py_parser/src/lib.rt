@@ -13,6 +13,8 @@ pub mod table;
 pub mod token;
 pub mod tree;
 
+pub use lexer::{is_barred, is_name_part};
+
 use refusal::{Construct, ParseRefusal};
 use std::alloc::{AllocError, Global};
 use token::Place;

@@ -1,3 +1,4 @@
 pub mod CppViews
 pub mod FilesGrow
 pub mod Appends
+pub mod FilesWritten

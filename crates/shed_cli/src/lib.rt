@@ -3,4 +3,10 @@
 
 mod cpp_text;
 mod file;
+mod judgement;
+mod status;
 mod tables;
+mod words;
+mod writing;
+
+pub use status::Status;

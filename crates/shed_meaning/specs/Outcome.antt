@@ -56,18 +56,18 @@ message_of WriteFailed = codes "shed: write fault\n"
 message_of OutOfMemory = codes "shed: no memory\n"
 
 -- the folder gives this text for a module, or none
-abbrev pub GivesModule : World → Name → Option (List ℕ) → Type 0
-GivesModule w name found = ReadsFile w.files (text_of name ++ codes ".py") (suc most_bytes) found
+abbrev pub GivesModule : Option Files → Name → Option (List ℕ) → Type 0
+GivesModule files name found = ReadsFile files (text_of name ++ codes ".py") (suc most_bytes) found
 
 abbrev pub program : Name → Body → Program
 program name body = record { main = record { name = name; body = body }; width = W32 }
 
 -- the words and the folder spell this program
-pub record Spells (words : List (List ℕ)) (w : World) (P : Program) : Type 0 where
+pub record Spells (words : List (List ℕ)) (files : Option Files) (P : Program) : Type 0 where
   pub name : Name
   pub read : reading words ≡ Some name
   pub text : List ℕ
-  pub found : GivesModule w name (Some text)
+  pub found : GivesModule files name (Some text)
   pub short : length text ≤ most_bytes
   pub body : Body
   pub source : IsSource text body
@@ -79,9 +79,9 @@ with_files told [] = told
 with_files told (f ∷ files) = with_files (told_with_file told f.name f.bytes) files
 
 -- the words and the folder spell a program whose translation has these files
-pub record Yields (words : List (List ℕ)) (w : World) (files : List File) : Type 0 where
+pub record Yields (words : List (List ℕ)) (told : Option Files) (files : List File) : Type 0 where
   pub source : Program
-  pub spelt : Spells words w source
+  pub spelt : Spells words told source
   pub target : CppProgram
   pub translates : Translates source target
   pub files_are : files ≡ written source target
@@ -96,27 +96,31 @@ pub record BreaksOff (files : List File) (old new : Option Files) : Type 0 where
 
 -- what stands behind a cause, and what it leaves in the folder
 abbrev pub Holds : List (List ℕ) → World → World → Cause → Type 0
-Holds words old new Translated = (files : List File) × Yields words old files × (new.files ≡ with_files old.files files)
+Holds words old new Translated = (files : List File) × Yields words old.files files × (new.files ≡ with_files old.files files)
 Holds words old new Unread = (reading words ≡ None) × (new.files ≡ old.files)
-Holds words old new (Missing name) = (reading words ≡ Some name) × GivesModule old name None × (new.files ≡ old.files)
+Holds words old new (Missing name) = (reading words ≡ Some name) × GivesModule old.files name None × (new.files ≡ old.files)
 Holds words old new (Unbuilt name) =
-    (reading words ≡ Some name) × (text : List ℕ) × GivesModule old name (Some text)
+    (reading words ≡ Some name) × (text : List ℕ) × GivesModule old.files name (Some text)
     × ((most_bytes < length text) ⊎ ((body : Body) → IsSource text body → ⊥)) × (new.files ≡ old.files)
 Holds words old new ReadFailed = (name : Name) × (reading words ≡ Some name) × Rose old.read_faults new.read_faults × (new.files ≡ old.files)
-Holds words old new WriteFailed = (files : List File) × Yields words old files × Rose old.write_faults new.write_faults × BreaksOff files old.files new.files
+Holds words old new WriteFailed = (files : List File) × Yields words old.files files × Rose old.write_faults new.write_faults × BreaksOff files old.files new.files
 -- earlier files may stand whole
 Holds words old new OutOfMemory =
     (name : Name) × (reading words ≡ Some name)
-    × ((new.files ≡ old.files) ⊎ ((files : List File) × Yields words old files × (whole : ℕ) × (new.files ≡ with_files old.files (take whole files))))
+    × ((new.files ≡ old.files) ⊎ ((files : List File) × Yields words old.files files × (whole : ℕ) × (new.files ≡ with_files old.files (take whole files))))
 
--- What is said of a cause, and the status. Where writing the message fails for a fault, the status is 7; for want of
--- memory, 8; a front of the message may stand.
+-- A message is written to err, and then the status is the one wanted. Where writing it fails for a fault, the status is 7;
+-- for want of memory, 8; and a front of the message may stand.
+abbrev pub Says : Option (List ℕ) → Option (List ℕ) → ℕ → ℕ → List ℕ → ℕ → ℕ → Type 0
+Says old new before now message wanted status =
+    ((status ≡ wanted) × (new ≡ appended old message))
+    ⊎ (((status ≡ 7) × Rose before now × (n : ℕ) × (new ≡ appended old (take n message)))
+    ⊎ ((status ≡ 8) × (n : ℕ) × (new ≡ appended old (take n message))))
+
+-- what is said of a cause: nothing where all went well
 abbrev pub Tells : World → World → Cause → ℕ → Type 0
 Tells old new Translated status = (status ≡ 0) × (new.err ≡ old.err)
-Tells old new cause status =
-    ((status ≡ status_of cause) × (new.err ≡ appended old.err (message_of cause)))
-    ⊎ ((status ≡ 7) × Rose old.err_faults new.err_faults × (n : ℕ) × (new.err ≡ appended old.err (take n (message_of cause))))
-    ⊎ ((status ≡ 8) × (n : ℕ) × (new.err ≡ appended old.err (take n (message_of cause))))
+Tells old new cause status = Says old.err new.err old.err_faults new.err_faults (message_of cause) (status_of cause) status
 
 -- a run of the command with these words, between two moments of the world, ends with this status
 pub record Ends (words : List (List ℕ)) (old new : World) (status : ℕ) : Type 0 where

@@ -1,0 +1,40 @@
+-- What the command finds out before it writes anything, and how statuses are numbered.
+use Rattle.std.specs.Prelude.{◌≡◌, ℕ, ◌<◌, List, length, Option, Some, None, ◌⊎◌, string_bytes}
+use Rattle.shed_base.specs.Outside.{Rose}
+use Rattle.shed_base.specs.Files.{Files}
+use Rattle.py_meaning.specs.Name.{Name}
+use Rattle.py_meaning.specs.Tree.{Body}
+use Rattle.py_meaning.specs.Source.{IsSource, most_bytes}
+use Rattle.shed_meaning.specs.Words.{reading}
+use Rattle.shed_meaning.specs.Outcome.{Missing, Unbuilt, message_of, GivesModule, Yields}
+use Rattle.shed_cli.specs.Plain.{plain_files}
+use Rattle.shed_cli.specs.declared.status.Status.{Status}
+use Rattle.shed_cli.specs.declared.status.Status.TheVariants as status
+use Rattle.shed_cli.specs.declared.judgement.Judgement.{Judgement}
+use Rattle.shed_cli.specs.declared.judgement.Judgement.TheVariants as judged
+
+abbrev pub number_of : Status → ℕ
+number_of status.Done = 0
+number_of status.Raised = 1
+number_of status.WordsRefused = 2
+number_of status.SourceRefused = 3
+number_of status.TypesRefused = 4
+number_of status.LimitPassed = 5
+number_of status.ReadFault = 6
+number_of status.WriteFault = 7
+number_of status.NoMemory = 8
+number_of status.CppRefused = 9
+number_of status.TicksUsedUp = 10
+number_of status.UndefinedIndex = 11
+
+-- what stands behind a judgement on these words and files, where the count of read faults went from one number to another
+abbrev pub Judged : List (List ℕ) → Option Files → ℕ → ℕ → Judgement → Type 0
+Judged words files before now judged.Unread = reading words ≡ None
+Judged words files before now (judged.Missing message) =
+    (name : Name) × (reading words ≡ Some name) × GivesModule files name None × (string_bytes message ≡ message_of (Missing name))
+Judged words files before now (judged.Unbuilt message) =
+    (name : Name) × (reading words ≡ Some name) × (text : List ℕ) × GivesModule files name (Some text)
+    × ((most_bytes < length text) ⊎ ((body : Body) → IsSource text body → ⊥)) × (string_bytes message ≡ message_of (Unbuilt name))
+Judged words files before now judged.ReadFailed = (name : Name) × (reading words ≡ Some name) × Rose before now
+Judged words files before now judged.OutOfMemory = (name : Name) × (reading words ≡ Some name)
+Judged words files before now (judged.Ready ready) = Yields words files (plain_files ready.items)
