@@ -377,3 +377,95 @@ fn parse_tokens(alloc: Global, tokens: &[Token]) -> Result<Option<Module>, Alloc
     }
     Err(AllocError)
 }
+
+#[cfg(test)]
+mod tests {
+    use super::*;
+
+    /// Each character is a token: `x` a name, `1` a number, `p` the name `print`.
+    fn kind_at(alloc: Global, character: char) -> Result<TokenKind, AllocError> {
+        Ok(match character {
+            'x' => TokenKind::Name(String::from_str(alloc, "x")?),
+            '1' => TokenKind::Number(1),
+            'p' => TokenKind::Print,
+            '=' => TokenKind::Mark(Mark::Equals),
+            '+' => TokenKind::Mark(Mark::Plus),
+            '-' => TokenKind::Mark(Mark::Minus),
+            '*' => TokenKind::Mark(Mark::Star),
+            '(' => TokenKind::Mark(Mark::Open),
+            ')' => TokenKind::Mark(Mark::Close),
+            _ => TokenKind::Newline,
+        })
+    }
+
+    /// How many statements the parser finds in such a text, if it finds a tree.
+    fn statements_in(alloc: Global, text: &str) -> Result<Option<usize>, AllocError> {
+        let mut tokens = Vec::new(alloc);
+        for character in text.chars() {
+            tokens.push(Token {
+                place: Place {
+                    module: 0,
+                    line: 1,
+                    column: 1,
+                },
+                kind: kind_at(alloc, character)?,
+            })?;
+        }
+        let parsed = parse_tokens(alloc, &tokens)?;
+        Ok(parsed.map(|module| module.body.len()))
+    }
+
+    fn nested(
+        alloc: Global,
+        before: &str,
+        repeated: &str,
+        times: usize,
+        after: &str,
+    ) -> Result<String, AllocError> {
+        let mut text = String::from_str(alloc, before)?;
+        for _ in 0..times {
+            text.push_str(repeated)?;
+        }
+        text.push_str(after)?;
+        Ok(text)
+    }
+
+    #[test]
+    fn finds_trees(rt: HostRuntime) -> Result<(), AllocError> {
+        for (text, wanted) in [
+            ("", Some(0)),
+            ("x=1-1*-x+1\np(x)\n", Some(2)),
+            ("x=\n", None),
+            ("x=1", None),
+            ("p(x\n", None),
+            ("x=1+\n", None),
+            ("1\n", None),
+        ] {
+            assert_eq!(rt; statements_in(rt.alloc(), text)?, wanted, "in {text}");
+        }
+        Ok(())
+    }
+
+    #[test]
+    fn refuses_what_nests_too_much(rt: HostRuntime) -> Result<(), AllocError> {
+        let alloc = rt.alloc();
+        for (before, repeated, times, after, wanted) in [
+            ("x=", "-", 99, "1\n", Some(1)),
+            ("x=", "-", 100, "1\n", None),
+            ("p(", "-", 98, "1)\n", Some(1)),
+            ("p(", "-", 99, "1)\n", None),
+            ("x=", "1+", 99, "1\n", Some(1)),
+            ("x=", "1+", 100, "1\n", None),
+            ("x=", "1+", 20000, "1\n", None),
+            ("x=1\n", "x=1\n", 2000, "", Some(2001)),
+        ] {
+            let text = nested(alloc, before, repeated, times, after)?;
+            assert_eq!(rt;
+                statements_in(alloc, &text)?,
+                wanted,
+                "{times} times {repeated}"
+            );
+        }
+        Ok(())
+    }
+}
