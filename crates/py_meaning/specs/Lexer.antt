@@ -27,7 +27,7 @@ closing = 41
 abbrev pub begins_with : Text → Text → Bool
 begins_with [] z = true
 begins_with (a ∷ front) [] = false
-begins_with (a ∷ front) (b ∷ z) = a == b && begins_with front z
+begins_with (a ∷ front) (b ∷ z) = b == a && begins_with front z
 
 -- ---- lines ("Logical lines", "Implicit line joining")
 
@@ -50,11 +50,15 @@ abbrev pub put : ℕ → List Text → List Text
 put b [] = (b ∷ []) ∷ []
 put b (l ∷ ls) = (b ∷ l) ∷ ls
 
+-- no lines at the end of a text, unless parentheses are open
+abbrev pub lines_at_end : ℕ → Option (List Text)
+lines_at_end zero = Some []
+lines_at_end (suc d) = None
+
 -- The logical lines of a text, where d parentheses are open already. A line end within parentheses is part of its line,
 -- and the one that ends a line is part of none. None where a parenthesis lacks its partner.
 abbrev pub lines_of : ℕ → Text → Option (List Text)
-lines_of zero [] = Some []
-lines_of (suc d) [] = None
+lines_of d [] = lines_at_end d
 lines_of d (b ∷ z) =
     if is_end d b then option_map (λ ls. [] ∷ ls) (lines_of d z)
     else option_and_then (λ e. option_map (put b) (lines_of e z)) (depth_after d b)
@@ -116,13 +120,13 @@ mark_at [] z = None
 mark_at (row ∷ rows) z = if begins_with row.0 z then row.1 else mark_at rows z
 
 -- The token at the front: the longest run of letters, digits and `_`, which must be a number where it begins with a digit
--- and a name otherwise, or the longest operator.
+-- and a name otherwise; or the longest operator.
 abbrev pub token : Text → Option (Kind × ℕ)
 token [] = None
 token (b ∷ z) =
     let run = take_while is_name_part (b ∷ z) in
-    if is_ascii_digit b then number run
-    else (if is_name_part b then name run else option_map (λ mark. (TMark mark, 1)) (mark_at operators (b ∷ z)))
+    if is_name_part b then (if is_ascii_digit b then number run else name run)
+    else option_map (λ mark. (TMark mark, 1)) (mark_at operators (b ∷ z))
 
 -- ---- from lines to tokens
 

@@ -1,5 +1,13 @@
+pub mod MarkLemmas
+pub mod TokenLemmas
+pub mod WantedLemmas
+pub mod TokenSteps
+pub mod TokenWanted
+pub mod WholeLemmas
+pub mod ReadLemmas
 pub mod Stacks
 pub mod Rows
 pub mod Bounds
 pub mod Turns
 pub mod Starts
+pub mod OneReading

@@ -1,6 +1,10 @@
 pub mod PlainTokens
 pub mod PlainTrees
+pub mod Marks
+pub mod Wanted
+pub mod Reads
 pub mod PlainTable
 pub mod Bounded
 pub mod PlainKept
 pub mod Parsed
+pub mod Reading

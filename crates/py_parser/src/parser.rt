@@ -355,7 +355,7 @@ fn step<'a>(
 }
 
 /// The tree of a module's tokens, if they have one that nests no more than it may.
-fn parse_tokens(alloc: Global, tokens: &[Token]) -> Result<Option<Module>, AllocError>
+pub(crate) fn parse_tokens(alloc: Global, tokens: &[Token]) -> Result<Option<Module>, AllocError>
     ensures { IfOk result (λ parsed. IsParsed (option_map plain parsed) (plain_tokens tokens.now)) }
 {
     let mut symbols = Vec::new(alloc);

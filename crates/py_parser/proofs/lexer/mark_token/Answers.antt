@@ -1,0 +1,9 @@
+use Rattle.std.proofs.Common.{refl}
+use Rattle.py_parser.proofs.TokenLemmas.{token-mark}
+use Rattle.py_parser.proofs.lexer.mark_token.Goals as goal
+
+pub returns-in-Some-clause-value : goal.returns-in-Some-clause-value
+returns-in-Some-clause-value c = rw (token-mark c.args.text.now c.requires.some c.requires.mark, ← c.in-Some.ensures) refl
+
+pub returns-in-None-clause-value : goal.returns-in-None-clause-value
+returns-in-None-clause-value c = rw (token-mark c.args.text.now c.requires.some c.requires.mark, ← c.in-None.ensures) refl
