@@ -1,35 +1,9 @@
--- Two grammars of one language whose values correspond: their runs correspond, step for step. So a parser may keep less
--- than a whole tree.
-use Rattle.std.proofs.Common.{◌≡◌, ℕ, zero, suc, Bool, true, false, cond, ◌&&◌, ◌==◌, List, [], ◌∷◌, ◌++◌, refl, sym, ap, ◌∙◌, subst, Option, Some, None}
+-- Runs of grammars whose values correspond.
+use Rattle.std.proofs.Common.{◌≡◌, ℕ, zero, suc, Bool, true, false, cond, ◌&&◌, ◌==◌, List, [], ◌∷◌, ◌++◌, refl, ap, subst, Option, Some, None}
 use Rattle.grammars.specs.Grammar.{Sym, Tok, Non, Do, allows, Row, Grammar, Sight, sight}
 use Rattle.grammars.specs.Sets.{Sets, has, ahead}
-use Rattle.grammars.specs.Run.{Outcome, Done, Stuck, Late, first_row, pick, expand, run}
-
--- the same symbols, under guards that agree on values that correspond
-abbrev pub RowsAgree : {N A V W : Type 0} → (V → W → Type 0) → List (Row N A V) → List (Row N A W) → Type 0
-RowsAgree R [] [] = Unit {0}
-RowsAgree R [] (q ∷ others) = ⊥
-RowsAgree R (r ∷ rows) [] = ⊥
-RowsAgree {N} {A} {V} {W} R (r ∷ rows) (q ∷ others) =
-    (r.symbols ≡ q.symbols) × ((v : V) (w : W) → R v w → allows r.guard v ≡ allows q.guard w) × RowsAgree R rows others
-
-pub record Agree {N A T V W : Type 0} (G : Grammar N A T V) (H : Grammar N A T W) (R : V → W → Type 0) : Type 0 where
-  pub kind : (t : T) → G.kind t ≡ H.kind t
-  pub take_in : (t : T) (v : V) (w : W) → R v w → R (G.take_in t v) (H.take_in t w)
-  pub act : (a : A) (v : V) (w : W) → R v w → R (G.act a v) (H.act a w)
-  pub rows : (x : N) → RowsAgree R (G.rows x) (H.rows x)
-
--- the same outcome, with values that correspond
-abbrev pub OutcomesAgree : {T V W : Type 0} → (V → W → Type 0) → Outcome T V → Outcome T W → Type 0
-OutcomesAgree R (Done v) (Done w) = R v w
-OutcomesAgree R (Done v) (Stuck rest) = ⊥
-OutcomesAgree R (Done v) Late = ⊥
-OutcomesAgree R (Stuck rest) (Done w) = ⊥
-OutcomesAgree R (Stuck rest) (Stuck others) = rest ≡ others
-OutcomesAgree R (Stuck rest) Late = ⊥
-OutcomesAgree R Late (Done w) = ⊥
-OutcomesAgree R Late (Stuck rest) = ⊥
-OutcomesAgree R Late Late = Unit {0}
+use Rattle.grammars.specs.Alike.{RowsAgree, Agree, OutcomesAgree}
+use Rattle.grammars.specs.Run.{Stuck, first_row, pick, expand, run}
 
 abbrev PicksAgree : {N A V W : Type 0} → Option (Row N A V) → Option (Row N A W) → Type 0
 PicksAgree None None = Unit {0}
@@ -40,18 +14,18 @@ PicksAgree (Some r) (Some q) = r.symbols ≡ q.symbols
 rows_pick : {N A T V W : Type 0} (R : V → W → Type 0) (S : Sets N T) (x : N) (v : V) (w : W) (s : Sight) (rows : List (Row N A V)) (others : List (Row N A W))
     → R v w → RowsAgree R rows others
     → PicksAgree (first_row (λ r. has (ahead S (S.follow x) r.symbols) s && allows r.guard v) rows)
-        (first_row (λ r. has (ahead S (S.follow x) r.symbols) s && allows r.guard w) others)
+    (first_row (λ r. has (ahead S (S.follow x) r.symbols) s && allows r.guard w) others)
 rows_pick R S x v w s [] [] h a = tt
 rows_pick R S x v w s [] (q ∷ others) h a = absurd a
 rows_pick R S x v w s (r ∷ rows) [] h a = absurd a
 rows_pick {N} {A} {T} {V} {W} R S x v w s (r ∷ rows) (q ∷ others) h a =
     step (has (ahead S (S.follow x) r.symbols) s && allows r.guard v) (has (ahead S (S.follow x) q.symbols) s && allows q.guard w)
-        (cc (ap (λ (l : List (Sym N A)). has (ahead S (S.follow x) l) s) a.0, a.1 v w h)) (rows_pick R S x v w s rows others h a.2)
+    (cc (ap (λ (l : List (Sym N A)). has (ahead S (S.follow x) l) s) a.0, a.1 v w h)) (rows_pick R S x v w s rows others h a.2)
   where
     step : (b c : Bool) → b ≡ c → PicksAgree (first_row (λ r. has (ahead S (S.follow x) r.symbols) s && allows r.guard v) rows)
         (first_row (λ r. has (ahead S (S.follow x) r.symbols) s && allows r.guard w) others)
         → PicksAgree (cond b (Some r) (first_row (λ r. has (ahead S (S.follow x) r.symbols) s && allows r.guard v) rows))
-            (cond c (Some q) (first_row (λ r. has (ahead S (S.follow x) r.symbols) s && allows r.guard w) others))
+        (cond c (Some q) (first_row (λ r. has (ahead S (S.follow x) r.symbols) s && allows r.guard w) others))
     step true true e p = a.0
     step true false e p = absurd (cc)
     step false true e p = absurd (cc)
@@ -80,8 +54,8 @@ runs_agree {N} {A} {T} {V} {W} G H R S g (suc n) (Tok k ∷ symbols) v w (t ∷ 
     step false false e p = refl
 runs_agree {N} {A} {T} {V} {W} G H R S g (suc n) (Non x ∷ symbols) v w ts h =
     step (pick G S x v (sight G ts)) (pick H S x w (sight H ts))
-        (subst (λ (s : Sight). PicksAgree (pick G S x v (sight G ts)) (pick H S x w s)) (same_sights G H R g ts) (rows_pick R S x v w (sight G ts) (G.rows x) (H.rows x) h (g.rows x)))
-        (λ l. runs_agree G H R S g n l v w ts h)
+    (subst (λ (s : Sight). PicksAgree (pick G S x v (sight G ts)) (pick H S x w s)) (same_sights G H R g ts) (rows_pick R S x v w (sight G ts) (G.rows x) (H.rows x) h (g.rows x)))
+    (λ l. runs_agree G H R S g n l v w ts h)
   where
     step : (o : Option (Row N A V)) (p : Option (Row N A W)) → PicksAgree o p
         → ((l : List (Sym N A)) → OutcomesAgree R (run G S n l v ts) (run H S n l w ts))

@@ -1,7 +1,7 @@
 -- What holds of every grammar as data.
 use Rattle.std.specs.Prelude.{◌≡◌, ℕ, true, List, [], ◌∷◌, ◌++◌, Some}
 use Rattle.grammars.specs.Grammar.{Sym, Non, Grammar, sight}
-use Rattle.grammars.specs.Derivation.{Derives, Yields}
+use Rattle.grammars.specs.Derivation.{Derives, Yields, Meaning, Chain, AreKept}
 use Rattle.grammars.specs.Sets.{Sets, has, is_decided, is_start, is_completable, have_specimens}
 use Rattle.grammars.specs.Run.{Done, Stuck, run}
 
@@ -58,3 +58,9 @@ Completable N A T V =
     (G : Grammar N A T V) (S : Sets N T) → ((x : N) → is_completable G S x ≡ true)
     → (symbols : List (Sym N A)) (v : V) → have_specimens G S symbols ≡ true
     → (ts : List T) × (w : V) × Yields G symbols v ts w
+
+-- a meaning that each row keeps is kept by every derivation
+abbrev pub ChainOf : (N A T V : Type 0) → Meaning N T V → Type 0
+ChainOf N A T V M =
+    (G : Grammar N A T V) → ((x : N) → AreKept G M x (G.rows x))
+    → (symbols : List (Sym N A)) (v : V) (ts : List T) (w : V) → Yields G symbols v ts w → Chain G M symbols v ts w []

@@ -3,3 +3,4 @@ pub mod Derivation
 pub mod Sets
 pub mod Run
 pub mod Laws
+pub mod Alike

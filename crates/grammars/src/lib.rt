@@ -5,7 +5,9 @@
 //! They are functions without a body, since a law is proved only where a contract names it.
 #![tactic(auto)]
 
-ghost use Rattle.grammars.specs.Laws.{Sound, Complete, OneValue, Longest, Begins, Completable};
+ghost use Rattle.std.specs.Prelude.{List};
+ghost use Rattle.grammars.specs.Alike.{RunsAgree};
+ghost use Rattle.grammars.specs.Laws.{ChainOf, Sound, Complete, OneValue, Longest, Begins, Completable};
 
 /// What is run to its end is derived.
 pub fn run_is_sound<N, A, T, V>()
@@ -35,4 +37,24 @@ pub fn closed_sets_are_right<N, A, T, V>()
 /// Symbols that pass the test derive something from each value.
 pub fn symbols_derive_something<N, A, T, V>()
     ensures law { Completable N A T V }
+{}
+
+/// What each nonterminal is taken to mean.
+pub trait Reading<N, T, V> {
+    ghost means: { N → V → List T → V → List T → Type 0 };
+}
+
+/// A meaning that each row keeps is kept by every derivation.
+pub fn derivations_keep_what_rows_keep<N, A, T, V, R: Reading<N, T, V>>()
+    ensures law { ChainOf N A T V R.means }
+{}
+
+/// Which value stands for which.
+pub trait Correspondence<V, W> {
+    ghost stands: { V → W → Type 0 };
+}
+
+/// Where actions and tokens keep a correspondence of values, runs keep it.
+pub fn runs_keep_what_actions_keep<N, A, T, V, W, C: Correspondence<V, W>>()
+    ensures law { RunsAgree N A T V W C.stands }
 {}

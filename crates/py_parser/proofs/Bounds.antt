@@ -1,7 +1,8 @@
 -- The run with bounded values answers as the run that builds every tree: it has the tree, or knows that it nests too much.
 use Rattle.std.proofs.Common.{◌≡◌, ℕ, suc, ◌+◌, ◌<◌, ◌≤◌, max, Bool, true, false, cond, nat_lt, nat_le, List, [], ◌∷◌, refl, ap, ap₂, subst, arith, ltb-false, leb-true, leb-false, Option, Some, None}
 use Rattle.grammars.specs.Run.{Outcome, Done, Stuck, Late, run}
-use Rattle.grammars.proofs.Alike.{Agree, RowsAgree, OutcomesAgree, runs_agree}
+use Rattle.grammars.specs.Alike.{Agree, RowsAgree, OutcomesAgree}
+use Rattle.grammars.proofs.Alike.{runs_agree}
 use Rattle.py_meaning.specs.Token.{Place, TName, TNumber, Token, At}
 use Rattle.py_meaning.specs.Tree.{Negative, Binary, Expr, EName, ENumber, EUnary, EBinary, Stmt, SAssign, SPrint, Body, none, more}
 use Rattle.py_meaning.specs.Grammar.{IsBody}
