@@ -46,10 +46,10 @@ one_broken Failed files i f name bytes first old new within is same_name same_by
       at = file_at files i f within is;
       count = w.0;
       left =
-        w.1
-        ∙ ap (λ (n : List ℕ). told_with_file old n (take w.0 bytes)) same_name
-        ∙ ap (λ (b : List ℕ). told_with_file old (plain_file f).name (take w.0 b)) same_bytes
-        ∙ ap (λ (o : Option Files). told_with_file o (plain_file f).name (take w.0 (plain_file f).bytes)) before;
+          w.1
+          ∙ ap (λ (n : List ℕ). told_with_file old n (take w.0 bytes)) same_name
+          ∙ ap (λ (b : List ℕ). told_with_file old (plain_file f).name (take w.0 b)) same_bytes
+          ∙ ap (λ (o : Option Files). told_with_file o (plain_file f).name (take w.0 (plain_file f).bytes)) before;
     }
 one_broken NoMemory files i f name bytes first old new within is same_name same_bytes before w failed = cc
 

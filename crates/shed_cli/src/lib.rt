@@ -6,7 +6,10 @@ mod file;
 mod judgement;
 mod status;
 mod tables;
+mod top;
+mod translation;
 mod words;
 mod writing;
 
 pub use status::Status;
+pub use top::shed;

@@ -1,6 +1,6 @@
 //! The words of the command line.
 
-ghost use Rattle.std.specs.Prelude.{◌≡◌, map, string_bytes};
+ghost use Rattle.std.specs.Prelude.{◌≡◌, [], ◌∷◌, map, string_bytes};
 ghost use Rattle.std.specs.Option.{option_copied};
 ghost use Rattle.py_meaning.specs.Lexer.{is_name_part as is_name_byte};
 ghost use Rattle.std.specs.List.{list_all};
@@ -12,13 +12,20 @@ use py_parser::{is_barred, is_name_part};
 pub fn read_words(words: &[String]) -> Option<&str>
     ensures { option_copied result ≡ reading (map string_bytes words.now) }
 {
-    let [command, word] = words else {
-        return None;
-    };
-    if command.as_str() != "translate" {
+    if words.len() != 2 {
         return None;
     }
-    module_name(word.as_str())
+    module_named(words[0].as_str(), words[1].as_str())
+}
+
+// The module of the command's word, where the command is `translate`.
+fn module_named<'a>(command: &str, word: &'a str) -> Option<&'a str>
+    ensures { option_copied result ≡ reading (command.now ∷ word.now ∷ []) }
+{
+    if command != "translate" {
+        return None;
+    }
+    module_name(word)
 }
 
 // The word as the name of a module, which may end in `.py`.
@@ -26,7 +33,11 @@ fn module_name(word: &str) -> Option<&str>
     ensures { option_copied result ≡ named (without_ending word.now) }
 {
     let name = stem(word);
-    if is_module_name(name) { Some(name) } else { None }
+    if is_module_name(name) {
+        Some(name)
+    } else {
+        None
+    }
 }
 
 fn stem(word: &str) -> &str
