@@ -52,3 +52,6 @@ pub fn parse(alloc: Global, text: &[u8]) -> Result<Module, ParseRefusal>
         Err(_) => Err(ParseRefusal::NoMemory),
     }
 }
+
+#[cfg(test)]
+mod tests;
