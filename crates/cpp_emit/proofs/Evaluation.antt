@@ -15,7 +15,7 @@ use Rattle.cpp_meaning.specs.Typing.{Types}
 use Rattle.cpp_meaning.specs.Machine.{Cells, Word, held, arithmetic, operate, evaluate}
 use Rattle.shed_meaning.specs.EmittedName.{global_name}
 use Rattle.cpp_emit.specs.Emit.{emit_operator, emit_expr}
-use Rattle.cpp_emit.proofs.Bound.{first_true, second_true}
+use Rattle.cpp_emit.proofs.GlobalsBound.{first_true, second_true}
 use Rattle.cpp_emit.proofs.WellTyped.{Knows, emitted_type}
 
 -- a program of one module

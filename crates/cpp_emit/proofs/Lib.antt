@@ -1,5 +1,9 @@
-pub mod Names
-pub mod Bound
+pub mod NamesApart
+pub mod GlobalsBound
+pub mod PlainViews
+pub mod BlocksGrow
+pub mod NamesWritten
+pub mod NamesKept
 pub mod WellTyped
 pub mod Evaluation
 pub mod RunsAlike

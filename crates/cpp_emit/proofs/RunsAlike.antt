@@ -21,8 +21,8 @@ use Rattle.cpp_meaning.specs.Machine.{Cells, Word, Characters, Null, held, evalu
 use Rattle.shed_meaning.specs.EmittedName.{global_name, body_name}
 use Rattle.shed_meaning.specs.Layout.{variables}
 use Rattle.cpp_emit.specs.Emit.{emit_expr, printed, emit_body, prints, emit_block, emit}
-use Rattle.cpp_emit.proofs.Names.{same_self, same_globals, other_globals, temporary_apart}
-use Rattle.cpp_emit.proofs.Bound.{first_true, second_true, binds}
+use Rattle.cpp_emit.proofs.NamesApart.{same_self, same_globals, other_globals, temporary_apart}
+use Rattle.cpp_emit.proofs.GlobalsBound.{first_true, second_true, binds}
 use Rattle.cpp_emit.proofs.WellTyped.{Knows, emitted_type, knows_more, knows_first, knows_fewer, chosen, globals_known, one_main}
 use Rattle.cpp_emit.proofs.Evaluation.{one_module, source_at, Agree, evaluates}
 

@@ -13,8 +13,8 @@ use Rattle.cpp_meaning.specs.Typing.{Types, inner_first, in_scope, type_of_sum, 
 use Rattle.shed_meaning.specs.EmittedName.{global_name, body_name}
 use Rattle.shed_meaning.specs.Layout.{externs, variables, HasTemporariesAlone}
 use Rattle.cpp_emit.specs.Emit.{emit_expr, printed, emit_body, prints, emit_block, emit}
-use Rattle.cpp_emit.proofs.Names.{same_self, same_globals, other_globals, temporary_apart}
-use Rattle.cpp_emit.proofs.Bound.{first_true, second_true, binds, bound_after_has, AreDistinct, bound_after_distinct}
+use Rattle.cpp_emit.proofs.NamesApart.{same_self, same_globals, other_globals, temporary_apart}
+use Rattle.cpp_emit.proofs.GlobalsBound.{first_true, second_true, binds, bound_after_has, AreDistinct, bound_after_distinct}
 
 -- these names are those of numbers
 abbrev pub Knows : Types → (Name → Bool) → Type 0

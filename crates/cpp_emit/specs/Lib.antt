@@ -1,2 +1,4 @@
 pub mod Emit
 pub mod Law
+pub mod Names
+pub mod Blocks

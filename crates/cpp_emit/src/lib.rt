@@ -1,9 +1,9 @@
-//! The emission of C++.
+//! The emission of C++: straight from a module's tree to the tree of its C++.
 #![tactic(auto)]
 
-ghost use Rattle.cpp_emit.specs.Law.{EmissionTranslates};
+mod bound;
+mod emission;
+mod names;
 
-/// Whatever program keeps the rule on reads, its emission is its translation.
-pub fn emission_translates()
-    ensures { EmissionTranslates }
-{}
+pub use bound::names_bound;
+pub use emission::emit;

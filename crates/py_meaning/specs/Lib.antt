@@ -1,11 +1,12 @@
 pub mod Name
 pub mod Token
+pub mod Lexer
 pub mod Tree
 pub mod Grammar
 pub mod Rules
-pub mod Lexer
+pub mod Table
+pub mod Source
 pub mod Value
 pub mod Program
-pub mod Machine
 pub mod Binding
-pub mod Table
+pub mod Machine

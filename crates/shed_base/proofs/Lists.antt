@@ -1,5 +1,5 @@
 -- What a read gives and leaves, as lists.
-use Rattle.std.proofs.Common.{◌≡◌, ℕ, ◌+◌, ◌≤◌, List, ◌++◌, length, take, drop, ap, ◌∙◌, arith}
+use Rattle.std.proofs.Common.{◌≡◌, ℕ, ◌+◌, ◌≤◌, List, ◌++◌, length, take, drop, ap, ◌∙◌}
 use Rattle.std.proofs.lemmas.List.{length-take-le, take-append-drop, drop-drop, take_at}
 
 -- what was copied to the front, and what is left after it, make up what there was

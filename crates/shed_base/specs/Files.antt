@@ -1,5 +1,5 @@
 -- The files of a folder, and what reading and writing one of them does.
-use Rattle.std.specs.Prelude.{◌≡◌, ℕ, List, take, Option, option_map, Result, Ok, Err, vec_items, Vec}
+use Rattle.std.specs.Prelude.{◌≡◌, ℕ, List, take, Option, option_map, Result, Ok, Err}
 use Rattle.std.specs.Ordering.{nat_cmp}
 use Rattle.std.specs.Cmp.Lexicographic.{slice_cmp}
 use Rattle.std.specs.FinMap as map

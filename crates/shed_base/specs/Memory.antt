@@ -37,6 +37,7 @@ FailsAsListed listed (Ok value) = listed ≡ false
 FailsAsListed listed (Err Failed) = listed ≡ true
 FailsAsListed listed (Err NoMemory) = Unit {0}
 
+-- a source in memory: what it has left, and how many bytes it gives at once
 pub record SourceState : Type 0 where
   pub rest : List ℕ
   pub most : ℕ
@@ -55,6 +56,7 @@ abbrev pub after_read : SourceState → {E : Type 0} → Result ℕ E → Source
 after_read source (Ok count) = record source { rest = drop count source.rest; calls = one_more source.calls }
 after_read source (Err refusal) = record source { calls = one_more source.calls; faults = raised source.faults }
 
+-- a sink in memory: what it took, and how many bytes it takes at once
 pub record SinkState : Type 0 where
   pub bytes : List ℕ
   pub most : ℕ
@@ -70,13 +72,14 @@ after_write sink piece (Ok count) = record sink { bytes = sink.bytes ++ take cou
 after_write sink piece (Err Failed) = record sink { calls = one_more sink.calls; faults = raised sink.faults }
 after_write sink piece (Err NoMemory) = record sink { calls = one_more sink.calls }
 
+-- a folder in memory, with its faults of reading and of writing
 pub record FolderState : Type 0 where
   pub files : Files
   pub calls : Calls
   pub read_faults : ℕ
   pub write_faults : ℕ
 
--- a folder is stored as the tuple of its parts
+-- its code is that of the tuple of its parts
 abbrev pub folder_code : Coded FolderState
 folder_code =
     code_by (Files × (List ℕ × (ℕ × (ℕ × ℕ))))

@@ -17,6 +17,6 @@ appended held bytes = option_map (λ (front : List ℕ). front ++ bytes) held
 abbrev pub put_back : List ℕ → Option (List ℕ) → Option (List ℕ)
 put_back bytes left = option_map (λ (rest : List ℕ). bytes ++ rest) left
 
--- a read of `count` bytes found the end exactly where nothing was left
-abbrev pub EndsWithZero : ℕ → Option (List ℕ) → Type 0
-EndsWithZero count left = option_map (λ (rest : List ℕ). length rest == 0) left ≡ option_map (λ (_ : List ℕ). count == 0) left
+-- a read of some room gives no byte exactly where none is left
+abbrev pub ZeroExactlyAtEnd : ℕ → Option (List ℕ) → Type 0
+ZeroExactlyAtEnd count left = option_map (λ (rest : List ℕ). length rest == 0) left ≡ option_map (λ (_ : List ℕ). count == 0) left

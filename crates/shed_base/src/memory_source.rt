@@ -1,5 +1,5 @@
 ghost use Rattle.std.specs.Prelude.{◌≡◌, ℕ, ◌<◌, ◌≤◌, length, take, drop, Some, IfOk, IsErr, is_err, ◌++◌};
-ghost use Rattle.shed_base.specs.Outside.{Rose, put_back, EndsWithZero};
+ghost use Rattle.shed_base.specs.Outside.{Rose, put_back, ZeroExactlyAtEnd};
 ghost use Rattle.shed_base.specs.Memory.{next_fails, next_count, new_source, after_read};
 
 use crate::calls::CallCount;
@@ -55,7 +55,7 @@ impl Source for MemorySource {
         ensures count { IfOk result (λ n. n ≤ length into.new) }
         ensures taken { IfOk result (λ n.
             Some self.old.rest ≡ put_back (take n into.new) (Some self.new.rest)) }
-        ensures end { IfOk result (λ n. 0 < length into.new → EndsWithZero n (Some self.old.rest)) }
+        ensures end { IfOk result (λ n. 0 < length into.new → ZeroExactlyAtEnd n (Some self.old.rest)) }
         ensures kept { IsErr result → Some self.new.rest ≡ Some self.old.rest }
         ensures later { self.old.faults ≤ self.new.faults }
         ensures failed { IsErr result → Rose self.old.faults self.new.faults }

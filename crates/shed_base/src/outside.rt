@@ -1,5 +1,5 @@
 ghost use Rattle.std.specs.Prelude.{◌≡◌, ℕ, ◌<◌, ◌≤◌, List, length, take, Option, option_map, vec_items, IfOk, IsErr, IsErrOf};
-ghost use Rattle.shed_base.specs.Outside.{Rose, appended, put_back, EndsWithZero};
+ghost use Rattle.shed_base.specs.Outside.{Rose, appended, put_back, ZeroExactlyAtEnd};
 ghost use Rattle.shed_base.specs.Files.{Files, ReadsFile, WritesFile};
 
 use crate::refusals::{Failed, IoRefusal};
@@ -21,7 +21,7 @@ pub trait Source {
         ensures count { IfOk result (λ n. n ≤ length into.new) }
         ensures taken { IfOk result (λ n.
             left self.old ≡ put_back (take n into.new) (left self.new)) }
-        ensures end { IfOk result (λ n. 0 < length into.new → EndsWithZero n (left self.old)) }
+        ensures end { IfOk result (λ n. 0 < length into.new → ZeroExactlyAtEnd n (left self.old)) }
         ensures kept { IsErr result → left self.new ≡ left self.old }
         ensures later { faults self.old ≤ faults self.new }
         ensures failed { IsErr result → Rose (faults self.old) (faults self.new) };

@@ -56,7 +56,11 @@ fn a_folder_fails_at_each_call_in_turn(rt: HostRuntime) -> Result<(), Fail> {
         assert_eq!(rt; found == Err(IoRefusal::Failed), fails == 0);
         assert_eq!(rt; missing == Err(IoRefusal::Failed), fails == 1);
         assert_eq!(rt; written == Err(IoRefusal::Failed), fails == 2);
-        let left = if fails == 2 { "af" } else { "after" };
+        let left = match written {
+            Ok(()) => "after",
+            Err(IoRefusal::Failed) => "af",
+            Err(IoRefusal::NoMemory) => "before",
+        };
         assert_eq!(rt; folder.file("old"), Some(left.as_bytes()));
         assert_eq!(rt; folder.file("new"), None);
     }

@@ -2,3 +2,5 @@ pub mod EmittedName
 pub mod Layout
 pub mod Table
 pub mod Headline
+pub mod Words
+pub mod Outcome

@@ -5,16 +5,20 @@ use Rattle.py_meaning.specs.Binding.{names_bound}
 use Rattle.py_meaning.specs.Program.{Program}
 use Rattle.cpp_meaning.specs.Text.{File}
 
--- one line for each global: its kind is int, and so is each of its values
+-- a global's line: its kind is int, and so is each of its values
+abbrev pub global_line : Name → Name → List ℕ
+global_line main x = codes "global " ++ (text_of main ++ (codes "." ++ (text_of x ++ codes " int {int}\n")))
+
 abbrev pub global_lines : Name → List Name → List ℕ
 global_lines main [] = []
-global_lines main (x ∷ names) =
-    codes "global " ++ (text_of main ++ (codes "." ++ (text_of x ++ (codes " int {int}\n" ++ global_lines main names))))
+global_lines main (x ∷ names) = global_line main x ++ global_lines main names
 
 -- one round, one template and its group, and the family of the exception classes, which is empty
+abbrev pub table_head : Name → List ℕ
+table_head main = codes "shed types 1\nrounds 1\ntemplate T0 " ++ (text_of main ++ codes " ()\nfamily F0\ngroup G0 T0\n")
+
 abbrev pub table_text : Name → List Name → List ℕ
-table_text main names =
-    codes "shed types 1\nrounds 1\ntemplate T0 " ++ (text_of main ++ (codes " ()\nfamily F0\ngroup G0 T0\n" ++ global_lines main names))
+table_text main names = table_head main ++ global_lines main names
 
 abbrev pub table : Program → File
 table P = record { name = text_of P.main.name ++ codes ".types"; bytes = table_text P.main.name (names_bound P.main.body) }

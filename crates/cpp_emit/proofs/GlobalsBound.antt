@@ -5,7 +5,7 @@ use Rattle.py_meaning.specs.Name.{Name, same_name}
 use Rattle.py_meaning.specs.Tree.{SAssign, SPrint, Body, none, more}
 use Rattle.py_meaning.specs.Rules.{has_name}
 use Rattle.py_meaning.specs.Binding.{bound_after}
-use Rattle.cpp_emit.proofs.Names.{same_is, same_self}
+use Rattle.cpp_emit.proofs.NamesApart.{same_is, same_self}
 
 pub first_true : (p q : Bool) → (p && q) ≡ true → p ≡ true
 first_true true q e = refl
