@@ -1,6 +1,6 @@
 -- What the definition of tokens says on some texts.
 use Rattle.std.proofs.Common.{◌≡◌, [], ◌∷◌, refl, Some, None}
-use lib.Chars.{codes}
+use Rattle.std.specs.Prelude.{codes}
 use Rattle.py_meaning.specs.Token.{Equals, Plus, Minus, Star, Open, Close, TName, TNumber, TPrint, TMark, TNewline, At}
 use Rattle.py_meaning.specs.Lexer.{place, tokens_of}
 

@@ -1,25 +1,29 @@
--- The tokens of a module's text (Python reference, "Lexical analysis"), as far as the language has them today. A text
--- with anything else in it has none: tabs, comments, backslashes, texts in quotes, indentation, and so on.
-use Rattle.std.specs.Prelude.{ℕ, zero, suc, ◌+◌, ◌-◌, ◌*◌, Bool, true, false, not, ◌&&◌, ◌||◌, if◌then◌else◌, ◌==◌, nat_le, nat_lt, List, [], ◌∷◌, length, Option, Some, None}
+-- The tokens of a module's text, as far as the language has them today (Python reference, "Lexical analysis"; the words
+-- in quotes below are its sections). A text with anything else in it has none: tabs, comments, backslashes, texts in
+-- quotes, indentation, bytes beyond ASCII, and so on. A text is cut into logical lines, and each of these into tokens.
+use Rattle.std.specs.Prelude.{ℕ, zero, suc, ◌+◌, ◌-◌, ◌*◌, Bool, true, false, not, ◌&&◌, ◌||◌, if◌then◌else◌, ◌==◌, nat_le, nat_lt, List, [], ◌∷◌, length, codes, Option, Some, None}
 use Rattle.std.specs.Char.{is_ascii_digit, is_ascii_alphanumeric}
 use Rattle.std.specs.List.{take_while, list_all, list_any}
 use Rattle.std.specs.Option.{option_map, option_and_then}
-use lib.Chars.{codes}
 use Rattle.py_meaning.specs.Name.{same_name}
 use Rattle.py_meaning.specs.Token.{Place, Mark, Equals, Plus, Minus, Star, Open, Close, Kind, TName, TNumber, TPrint, TMark, TNewline, Token, At}
 
 abbrev pub Text : Type 0
 Text = List ℕ
 
+-- LF, the one line end of the language ("Physical lines")
 abbrev pub line_end : ℕ
 line_end = 10
 
+-- it parts tokens ("Whitespace between tokens")
 abbrev pub space : ℕ
 space = 32
 
+-- `(`
 abbrev pub opening : ℕ
 opening = 40
 
+-- `)`
 abbrev pub closing : ℕ
 closing = 41
 
@@ -40,7 +44,7 @@ less (suc d) = Some d
 abbrev pub depth_after : ℕ → ℕ → Option ℕ
 depth_after d b = if b == opening then Some (suc d) else (if b == closing then less d else Some d)
 
--- whether a byte ends its logical line, where d parentheses are open
+-- whether a byte ends its logical line, where d parentheses are open: a line end within parentheses does not
 abbrev pub is_end : ℕ → ℕ → Bool
 is_end zero b = b == line_end
 is_end (suc d) b = false
@@ -50,13 +54,13 @@ abbrev pub put : ℕ → List Text → List Text
 put b [] = (b ∷ []) ∷ []
 put b (l ∷ ls) = (b ∷ l) ∷ ls
 
--- no lines at the end of a text, unless parentheses are open
+-- no more lines at the end of a text, where no parenthesis is open
 abbrev pub lines_at_end : ℕ → Option (List Text)
 lines_at_end zero = Some []
 lines_at_end (suc d) = None
 
--- The logical lines of a text, where d parentheses are open already. A line end within parentheses is part of its line,
--- and the one that ends a line is part of none. None where a parenthesis lacks its partner.
+-- The logical lines of a text, where d parentheses are open already. A line end within parentheses is a byte of its line,
+-- and the one that ends a line belongs to none. There are none where a parenthesis lacks its partner.
 abbrev pub lines_of : ℕ → Text → Option (List Text)
 lines_of d [] = lines_at_end d
 lines_of d (b ∷ z) =
@@ -65,10 +69,11 @@ lines_of d (b ∷ z) =
 
 -- ---- tokens, each a function of the bytes from its first one on: what it is, and its length
 
+-- a letter, a digit or `_`
 abbrev pub is_name_part : ℕ → Bool
 is_name_part b = is_ascii_alphanumeric b || b == 95
 
--- names ("Identifiers and keywords"): keywords and `__name__` have no token yet
+-- names that have no token yet ("Keywords")
 abbrev pub barred : List Text
 barred =
     codes "False" ∷ codes "None" ∷ codes "True" ∷ codes "and" ∷ codes "as" ∷ codes "assert" ∷ codes "async" ∷ codes "await" ∷ codes "break"
@@ -81,12 +86,13 @@ barred =
 abbrev pub longest_name : ℕ
 longest_name = 1000
 
+-- a name ("Identifiers and keywords"): `print` has a token of its own
 abbrev pub name : Text → Option (Kind × ℕ)
 name w =
     if nat_lt longest_name (length w) || list_any (same_name w) barred then None
     else Some (if same_name w (codes "print") then TPrint else TName w, length w)
 
--- numbers ("Integer literals"): a leading 0 stands in a number of zeros alone
+-- the value of decimal digits, behind others whose value is v
 abbrev pub value_from : ℕ → Text → ℕ
 value_from v [] = v
 value_from v (b ∷ w) = value_from (v * 10 + (b - 48)) w
@@ -94,13 +100,14 @@ value_from v (b ∷ w) = value_from (v * 10 + (b - 48)) w
 abbrev pub largest_number : ℕ
 largest_number = 2147483647
 
+-- decimal digits, whose first is 0 in a number of zeros alone ("Integer literals")
 abbrev pub is_number : Text → Bool
 is_number w = list_all is_ascii_digit w && (not (begins_with (codes "0") w) || list_all (λ b. b == 48) w) && nat_le (value_from 0 w) largest_number
 
 abbrev pub number : Text → Option (Kind × ℕ)
 number w = if is_number w then Some (TNumber (value_from 0 w), length w) else None
 
--- operators and delimiters, longer ones first, each with its mark if it has a token yet
+-- "Operators" and "Delimiters": longer ones stand first, and each has its mark, if it has a token yet
 abbrev pub operators : List (Text × Option Mark)
 operators =
     (codes "**=", None) ∷ (codes "//=", None) ∷ (codes "<<=", None) ∷ (codes ">>=", None) ∷ (codes "...", None)
@@ -114,13 +121,13 @@ operators =
     ∷ (codes "{", None) ∷ (codes "}", None) ∷ (codes ",", None) ∷ (codes ":", None) ∷ (codes ".", None) ∷ (codes ";", None)
     ∷ (codes "=", Some Equals) ∷ []
 
--- the mark of the first of some operators that a text begins with
+-- the mark of the first of some operators that a text begins with, which is its longest
 abbrev pub mark_at : List (Text × Option Mark) → Text → Option Mark
 mark_at [] z = None
 mark_at (row ∷ rows) z = if begins_with row.0 z then row.1 else mark_at rows z
 
--- The token at the front: the longest run of letters, digits and `_`, which must be a number where it begins with a digit
--- and a name otherwise; or the longest operator.
+-- The token at the front is the longest run of letters, digits and `_`, or the longest operator. A run that begins with a
+-- digit must be a number as a whole, so none stands where a letter or `_` comes right behind a number.
 abbrev pub token : Text → Option (Kind × ℕ)
 token [] = None
 token (b ∷ z) =
@@ -151,11 +158,12 @@ cut n c zero after (b ∷ z) =
     if b == space then cut n (c + 1) 0 after z
     else (if b == line_end then cut (n + 1) 1 0 after z else begin n c (token (b ∷ z)) (λ left. cut n (c + 1) left after z))
 
--- "Blank lines"
+-- whether a line has spaces alone ("Blank lines")
 abbrev pub is_blank : Text → Bool
 is_blank = list_all (λ b. b == space)
 
--- the same of a whole logical line: a blank one has no tokens, and an indented one is outside the language ("Indentation")
+-- The same of a whole logical line. A blank one has no tokens, and an indented one is outside the language
+-- ("Indentation").
 abbrev pub line : ℕ → (ℕ → Option (List Token)) → Text → Option (List Token)
 line n after l = if is_blank l then after (n + 1) else (if begins_with (space ∷ []) l then None else cut n 1 0 after l)
 
@@ -164,7 +172,7 @@ abbrev pub emit : ℕ → List Text → Option (List Token)
 emit n [] = Some []
 emit n (l ∷ ls) = line n (λ m. emit m ls) l
 
--- whether a text is empty or ends by a line end
+-- whether a text is empty or ends by a line end: a last line without one is outside the language
 abbrev pub is_ended : Text → Bool
 is_ended [] = true
 is_ended (b ∷ []) = b == line_end

@@ -9,10 +9,10 @@ use Rattle.py_meaning.specs.Rules.{IsShallowBody, are_reads_sure}
 -- the text's tokens spell this body, which keeps the rules
 pub record IsSource (text : List ℕ) (body : Body) : Type 0 where
   pub tokens : List Token
-  pub cut : tokens_of text ≡ Some tokens
-  pub is_body : IsBody body tokens
-  pub is_shallow : IsShallowBody body
-  pub are_sure : are_reads_sure [] body ≡ true
+  pub lexed : tokens_of text ≡ Some tokens
+  pub spelt : IsBody body tokens
+  pub shallow : IsShallowBody body
+  pub sure : are_reads_sure [] body ≡ true
 
 -- the most bytes of a module
 abbrev pub most_bytes : ℕ

@@ -3,7 +3,7 @@ use Rattle.std.proofs.Common.{◌≡◌, Bool, true, false, cond, ◌&&◌, ◌|
 use Rattle.std.specs.Str.{bytes_eq}
 use Rattle.py_meaning.specs.Name.{Name, same_name}
 use Rattle.py_meaning.specs.Token.{Place}
-use Rattle.py_meaning.specs.Tree.{Expr, EName, ENumber, EUnary, EBinary, Stmt, SAssign, SPrint, Body, none, more}
+use Rattle.py_meaning.specs.Tree.{Expr, EName, ENumber, EUnary, EBinary, SAssign, SPrint, Body, none, more}
 use Rattle.py_meaning.specs.Rules.{has_name, reads_only, are_reads_sure}
 use Rattle.py_parser.specs.Reads.{reads_by, sure_by}
 

@@ -2,14 +2,14 @@
 use Rattle.std.specs.Prelude.{◌≡◌}
 use Rattle.py_meaning.specs.Tree.{Body}
 use Rattle.py_meaning.specs.Lexer.{Text}
-pub use Rattle.py_meaning.specs.Source.{IsSource as Spells}
+use Rattle.py_meaning.specs.Source.{IsSource}
 use Rattle.py_parser.specs.declared.token.Place.{Place}
 use Rattle.py_parser.specs.declared.refusal.ParseRefusal.{ParseRefusal}
 use Rattle.py_parser.specs.declared.refusal.ParseRefusal.TheVariants.{Outside, NoMemory}
 
--- the text spells no tree
+-- the text is no module of the language
 abbrev pub IsOutside : Text → Type 0
-IsOutside text = (body : Body) → Spells text body → ⊥
+IsOutside text = (body : Body) → IsSource text body → ⊥
 
 -- for now each refusal has the place where the module begins
 abbrev pub beginning : Place

@@ -1,7 +1,7 @@
 -- The rule on reads, for names that are known by a test.
 use Rattle.std.specs.Prelude.{Bool, true, ◌&&◌, ◌||◌}
 use Rattle.py_meaning.specs.Name.{Name, same_name}
-use Rattle.py_meaning.specs.Tree.{Expr, EName, ENumber, EUnary, EBinary, Stmt, SAssign, SPrint, Body, none, more}
+use Rattle.py_meaning.specs.Tree.{Expr, EName, ENumber, EUnary, EBinary, SAssign, SPrint, Body, none, more}
 
 -- whether an expression reads known names alone
 abbrev pub reads_by : (Name → Bool) → Expr → Bool

@@ -396,38 +396,3 @@ pub(crate) fn lex(alloc: Global, text: &[u8]) -> Result<Option<Vec<Token>>, Allo
     }
     lexer.finish()
 }
-
-#[cfg(test)]
-mod tests {
-    use super::*;
-    use std::test::Fail;
-
-    #[test]
-    fn counts_tokens(rt: HostRuntime) -> Result<(), Fail> {
-        let cases: [(&str, Option<usize>); 18] = [
-            ("", Some(0)),
-            ("\n", Some(0)),
-            ("x = 1\n", Some(4)),
-            ("print(1 +\n  2)\n", Some(7)),
-            ("\n  \nprinted=-x_1 *00\n\n", Some(7)),
-            ("2147483647\n", Some(2)),
-            ("2147483648\n", None),
-            ("x-=1\n", None),
-            ("1**2\n", None),
-            ("007\n", None),
-            ("1_0\n", None),
-            ("not\n", None),
-            ("__name__\n", None),
-            ("x = 1", None),
-            ("x = 1\n ", None),
-            (" x = 1\n", None),
-            ("(\n", None),
-            (")\n", None),
-        ];
-        for (text, want) in cases {
-            let got = lex(rt.alloc(), text.as_bytes())?;
-            assert_eq!(rt; got.map(|tokens| tokens.len()), want, "at {text:?}");
-        }
-        Ok(())
-    }
-}

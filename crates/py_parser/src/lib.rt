@@ -2,8 +2,9 @@
 #![tactic(auto)]
 
 ghost use Rattle.std.specs.Prelude.{IfOk, IfErr, MatchOption};
+ghost use Rattle.py_meaning.specs.Source.{IsSource};
 ghost use Rattle.py_parser.specs.PlainTrees.{plain};
-ghost use Rattle.py_parser.specs.Reading.{Spells, IsOutside, IsRefused};
+ghost use Rattle.py_parser.specs.Reading.{IsOutside, IsRefused};
 
 mod lexer;
 mod parser;
@@ -27,9 +28,9 @@ const BEGINNING: Place = Place {
     column: 1,
 };
 
-/// The tree that a text spells, if it spells one.
+/// The tree of a text that is a module of the language.
 fn read(alloc: Global, text: &[u8]) -> Result<Option<Module>, AllocError>
-    ensures { IfOk result (λ read. MatchOption read (IsOutside text.now) (λ m. Spells text.now (plain m))) }
+    ensures { IfOk result (λ read. MatchOption read (IsOutside text.now) (λ m. IsSource text.now (plain m))) }
 {
     let Some(tokens) = lexer::lex(alloc, text)? else {
         return Ok(None);
@@ -45,7 +46,7 @@ fn read(alloc: Global, text: &[u8]) -> Result<Option<Module>, AllocError>
 
 /// The tree of a module's text. A text whose lines or columns no `u32` can count is refused for want of memory.
 pub fn parse(alloc: Global, text: &[u8]) -> Result<Module, ParseRefusal>
-    ensures tree { IfOk result (λ m. Spells text.now (plain m)) }
+    ensures tree { IfOk result (λ m. IsSource text.now (plain m)) }
     ensures refused { IfErr result (IsRefused text.now) }
 {
     match read(alloc, text) {
@@ -54,3 +55,6 @@ pub fn parse(alloc: Global, text: &[u8]) -> Result<Module, ParseRefusal>
         Err(_) => Err(ParseRefusal::NoMemory),
     }
 }
+
+#[cfg(test)]
+mod tests;

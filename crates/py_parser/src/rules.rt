@@ -42,11 +42,11 @@ fn pass(names: &mut HashSet<String>, statement: &Stmt) -> Result<bool, AllocErro
 }
 
 /// Whether each read in a module stands after an assignment to its name.
-pub(crate) fn are_reads_sure(alloc: Global, module: &Module) -> Result<bool, AllocError>
-    ensures { IfOk result (λ sure. sure ≡ rules.are_reads_sure [] (plain module.now)) }
+pub(crate) fn are_reads_sure(alloc: Global, parsed: &Module) -> Result<bool, AllocError>
+    ensures { IfOk result (λ sure. sure ≡ rules.are_reads_sure [] (plain parsed.now)) }
 {
     let mut names: HashSet<String> = HashSet::new(alloc);
-    for statement in module.body.as_slice() {
+    for statement in parsed.body.as_slice() {
         if !pass(&mut names, statement)? {
             return Ok(false);
         }
