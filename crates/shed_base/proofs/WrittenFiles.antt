@@ -72,3 +72,6 @@ pub ReadsFile-whole : (files : Files) (name : List ℕ) (most : ℕ) (bytes : Li
 ReadsFile-whole files name most bytes reads short =
     let found = ReadsFile-some files name most bytes reads in
     whole_found most (file_of files name) bytes found.0 found.1 found.2 short
+
+-- for an attribute `using` or a tactic's list
+pub ruleset written_files = (file_of-empty, file_of-with_file, file_of-with_file_other, with_file-with_file)

@@ -1,4 +1,4 @@
-ghost use Rattle.std.specs.Prelude.{◌≡◌, ℕ, ◌≤◌, Some, option_map, option_copied, vec_items, IfOk, IsErrOf, OnOk, OnErr};
+ghost use Rattle.std.specs.Prelude.{◌≡◌, ◌≤◌, Some, option_map, option_copied, vec_items, IfOk, IsErrOf, OnOk, OnErr};
 ghost use Rattle.shed_base.specs.Outside.{Rose};
 ghost use Rattle.shed_base.specs.Files.{ReadsFile, WritesFile, file_of};
 ghost use Rattle.shed_base.specs.Memory.{next_fails, is_failed, FailsAsListed, new_folder, after_put, after_file_read, after_file_write};

@@ -1,4 +1,4 @@
-ghost use Rattle.std.specs.Prelude.{◌≡◌, ℕ, ◌<◌, ◌≤◌, length, take, drop, Some, IfOk, IsErr, is_err, ◌++◌};
+ghost use Rattle.std.specs.Prelude.{◌≡◌, ◌<◌, ◌≤◌, length, take, Some, IfOk, IsErr, is_err};
 ghost use Rattle.shed_base.specs.Outside.{Rose, put_back, ZeroExactlyAtEnd};
 ghost use Rattle.shed_base.specs.Memory.{next_fails, next_count, new_source, after_read};
 
@@ -30,7 +30,7 @@ impl Model for MemorySource {
 
 impl MemorySource {
     /// A source of these bytes that gives at most `most` of them at once. `fails` has the numbers,
-    /// from 0, of the calls that are to fail.
+    /// from 0, of the calls that are to fail; they take no byte.
     pub fn new(bytes: Vec<u8>, most: usize, fails: Vec<u64>) -> MemorySource
         requires { 1 ≤ most }
         ensures { result ≡ new_source bytes.items most fails.items }
@@ -45,7 +45,6 @@ impl MemorySource {
     }
 }
 
-#[tactic(auto, using(crate::proofs::Lists::copied_and_left))]
 impl Source for MemorySource {
     ghost left = { λ s. Some s.rest };
 
@@ -55,7 +54,8 @@ impl Source for MemorySource {
         ensures count { IfOk result (λ n. n ≤ length into.new) }
         ensures taken { IfOk result (λ n.
             Some self.old.rest ≡ put_back (take n into.new) (Some self.new.rest)) }
-        ensures end { IfOk result (λ n. 0 < length into.new → ZeroExactlyAtEnd n (Some self.old.rest)) }
+        ensures end { IfOk result (λ n.
+            0 < length into.new → ZeroExactlyAtEnd n (Some self.old.rest)) }
         ensures kept { IsErr result → Some self.new.rest ≡ Some self.old.rest }
         ensures later { self.old.faults ≤ self.new.faults }
         ensures failed { IsErr result → Rose self.old.faults self.new.faults }

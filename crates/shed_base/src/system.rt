@@ -1,6 +1,6 @@
 //! The world outside as the system has it. Nothing is told of what it holds, and each of these
 //! types is seen as its counts of faults.
-ghost use Rattle.std.specs.Prelude.{◌≡◌, ℕ, ◌≤◌, ◌++◌, None, IfOk, IsErrOf, codes, string_bytes};
+ghost use Rattle.std.specs.Prelude.{◌≡◌, ℕ, ◌≤◌, ◌++◌, None, IfOk, codes, string_bytes};
 ghost use Rattle.shed_base.specs.Outside.{Rose};
 
 use crate::outside::{Folder, Sink, Source};
