@@ -7,7 +7,7 @@ use Rattle.py_parser.specs.Bounded.{row_for}
 use Rattle.py_parser.specs.PlainTokens.{plain_token, plain_tokens}
 use Rattle.py_parser.specs.PlainTable.{number, kind_of_token, row_of, plain_nonterminal, plain_symbols}
 use Rattle.py_parser.specs.PlainKept.{sight_of}
-use Rattle.py_parser.specs.declared.token.Place.{Place}
+use Rattle.shed_base.specs.declared.place.Place.{Place}
 use Rattle.py_parser.specs.declared.token.Mark.TheVariants as mark
 use Rattle.py_parser.specs.declared.token.TokenKind.{TokenKind}
 use Rattle.py_parser.specs.declared.token.TokenKind.TheVariants as token

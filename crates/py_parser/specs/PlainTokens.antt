@@ -1,7 +1,7 @@
 -- The code's tokens as the plain tokens that definitions speak of.
 use Rattle.std.specs.Prelude.{List, map, string_bytes}
 use Rattle.py_meaning.specs.Token as meaning
-use Rattle.py_parser.specs.declared.token.Place.{Place}
+use Rattle.shed_base.specs.declared.place.Place.{Place}
 use Rattle.py_parser.specs.declared.token.Mark.{Mark}
 use Rattle.py_parser.specs.declared.token.Mark.TheVariants as mark
 use Rattle.py_parser.specs.declared.token.TokenKind.{TokenKind}

@@ -5,7 +5,7 @@ use Rattle.std.specs.declared.string.String.{String}
 use Rattle.std.specs.declared.alloc.Global.{Global}
 use Rattle.py_meaning.specs.Tree as meaning
 use Rattle.py_parser.specs.PlainTokens.{plain_place}
-use Rattle.py_parser.specs.declared.token.Place.{Place}
+use Rattle.shed_base.specs.declared.place.Place.{Place}
 use Rattle.py_parser.specs.declared.tree.UnaryOperator.{UnaryOperator}
 use Rattle.py_parser.specs.declared.tree.UnaryOperator.TheVariants as unary
 use Rattle.py_parser.specs.declared.tree.BinaryOperator.{BinaryOperator}

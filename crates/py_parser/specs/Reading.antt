@@ -3,7 +3,7 @@ use Rattle.std.specs.Prelude.{◌≡◌}
 use Rattle.py_meaning.specs.Tree.{Body}
 use Rattle.py_meaning.specs.Lexer.{Text}
 use Rattle.py_meaning.specs.Source.{IsSource}
-use Rattle.py_parser.specs.declared.token.Place.{Place}
+use Rattle.shed_base.specs.declared.place.Place.{Place}
 use Rattle.py_parser.specs.declared.refusal.ParseRefusal.{ParseRefusal}
 use Rattle.py_parser.specs.declared.refusal.ParseRefusal.TheVariants.{Outside, NoMemory}
 

@@ -11,7 +11,8 @@ ghost use Rattle.py_parser.specs.PlainTokens.{plain_mark, plain_kind, plain_toke
 ghost use Rattle.py_parser.specs.Marks.{mark_by};
 ghost use Rattle.py_parser.specs.Wanted.{whole, depth_then};
 
-use crate::token::{Mark, Place, Token, TokenKind};
+use crate::token::{Mark, Token, TokenKind};
+use shed_base::Place;
 use std::alloc::{AllocError, Global};
 use std::str;
 

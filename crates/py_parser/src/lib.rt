@@ -15,10 +15,9 @@ pub mod token;
 pub mod tree;
 
 pub use lexer::{is_barred, is_name_part};
-
 use refusal::{Construct, ParseRefusal};
+use shed_base::Place;
 use std::alloc::{AllocError, Global};
-use token::Place;
 use tree::Module;
 
 /// Where a module begins.

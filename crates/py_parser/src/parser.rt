@@ -14,8 +14,9 @@ ghost use Rattle.py_parser.specs.Bounded.{Kept as PlainValue, negated, joined, s
 ghost use Rattle.py_parser.specs.Parsed.{IsParsed};
 
 use crate::table::{Action, Kind, Nonterminal, Symbol, is_same, kind_of, row_at};
-use crate::token::{Mark, Place, Token, TokenKind};
+use crate::token::{Mark, Token, TokenKind};
 use crate::tree::{BinaryOperator, Expr, Module, Stmt, UnaryOperator};
+use shed_base::Place;
 use sqlite_items::{Boxed, Items};
 use std::alloc::{AllocError, Global};
 

@@ -3,7 +3,7 @@
 ghost use Rattle.std.specs.Prelude.{◌≡◌};
 ghost use Rattle.py_parser.specs.declared.refusal.ParseRefusal.TheVariants.{NoMemory};
 
-use crate::token::Place;
+use shed_base::Place;
 use std::alloc::AllocError;
 use thiserror::Error;
 

@@ -1,12 +1,6 @@
 //! Tokens of a module.
 
-/// Where something stands: the module's number, and the line and the column of its first character, both from 1.
-#[derive(Clone, Copy, Debug, PartialEq, Eq)]
-pub struct Place {
-    pub module: u32,
-    pub line: u32,
-    pub column: u32,
-}
+use shed_base::Place;
 
 /// Operators and delimiters.
 #[derive(Clone, Copy, Debug, PartialEq, Eq)]

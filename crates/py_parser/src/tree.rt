@@ -1,6 +1,6 @@
 //! Trees of a module. Each node has the place of its head token.
 
-use crate::token::Place;
+use shed_base::Place;
 use sqlite_items::{Boxed, Items};
 
 /// An operator before its operand.

@@ -5,3 +5,4 @@ pub mod FilesWritten
 pub mod WordsRead
 pub mod Judgements
 pub mod Endings
+pub mod CausesFollow

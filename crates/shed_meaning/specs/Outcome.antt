@@ -128,3 +128,26 @@ pub record Ends (words : List (List ℕ)) (old new : World) (status : ℕ) : Typ
   pub holds : Holds words old new cause
   pub tells : Tells old new cause status
   pub out : new.out ≡ old.out
+
+-- What a status tells, and which status comes where: what each number answers for.
+pub record Causes (words : List (List ℕ)) (old new : World) (status : ℕ) : Type 0 where
+  -- 0: the words and the folder spell a program, and the files of its translation are written
+  pub done : status ≡ 0 → (files : List File) × Yields words old.files files × (new.files ≡ with_files old.files files)
+  -- 2: the words say nothing, and where they say nothing it is 2, but for err
+  pub refused : status ≡ 2 → reading words ≡ None
+  pub unread : reading words ≡ None → (status ≡ 2) ⊎ ((status ≡ 7) × Rose old.err_faults new.err_faults) ⊎ (status ≡ 8)
+  -- 3: there is no file of the module, or it isn't of the language
+  pub source : status ≡ 3 → (name : Name) × (reading words ≡ Some name)
+      × (GivesModule old.files name None
+      ⊎ ((text : List ℕ) × GivesModule old.files name (Some text) × ((most_bytes < length text) ⊎ ((body : Body) → IsSource text body → ⊥))))
+  -- 6 and 7: a count of that kind rose in the call
+  pub read_fault : status ≡ 6 → ((name : Name) × (reading words ≡ Some name)) × Rose old.read_faults new.read_faults
+  pub write_fault : status ≡ 7 → Rose old.write_faults new.write_faults ⊎ Rose old.err_faults new.err_faults
+  -- where a folder that tells its files has the program, and no count rose, it is 0 or 8
+  pub complete : (files : Files) (P : Program) → old.files ≡ Some files → Spells words old.files P
+      → (Rose old.read_faults new.read_faults → ⊥) → (Rose old.write_faults new.write_faults → ⊥) → (Rose old.err_faults new.err_faults → ⊥)
+      → (status ≡ 0) ⊎ (status ≡ 8)
+  -- no other status comes
+  pub known : (status ≡ 0) ⊎ (status ≡ 2) ⊎ (status ≡ 3) ⊎ (status ≡ 6) ⊎ (status ≡ 7) ⊎ (status ≡ 8)
+  -- but for 0, 7 and 8 the folder is as it was
+  pub folder_kept : (status ≡ 0 → ⊥) → (status ≡ 7 → ⊥) → (status ≡ 8 → ⊥) → new.files ≡ old.files
