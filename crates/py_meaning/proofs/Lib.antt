@@ -4,3 +4,5 @@ pub mod TableSpelling
 pub mod TableLaws
 pub mod TableVectors
 mod LexerVectors
+mod MachineVectors
+mod RuleVectors

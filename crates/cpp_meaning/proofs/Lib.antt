@@ -1,0 +1,4 @@
+pub mod TreeVectors
+mod TextVectors
+mod TypingVectors
+mod MachineVectors

@@ -1,0 +1,4 @@
+mod NameVectors
+mod TableVectors
+mod WordVectors
+mod LayoutVectors
