@@ -1,5 +1,5 @@
 -- Which texts are modules of the language that is built today, and what module each of them is.
-use Rattle.std.specs.Prelude.{◌≡◌, ℕ, ◌≤◌, List, [], true, length, Option, Some}
+use Rattle.std.specs.Prelude.{◌≡◌, ℕ, List, [], true, Some}
 use Rattle.py_meaning.specs.Token.{Token}
 use Rattle.py_meaning.specs.Lexer.{tokens_of}
 use Rattle.py_meaning.specs.Tree.{Body}
