@@ -14,8 +14,8 @@ pub emission_translates : EmissionTranslates
 emission_translates name body sure =
     let P = one_module (record { name = name; body = body }) in
     record {
-      typed = emit_typed name body sure;
-      laid_out = record { block = emit_block body; temporaries = emit_laid_out body; modules = refl };
+      files = refl;
+      typed = (emit_typed name body sure, record { block = emit_block body; temporaries = emit_laid_out body; modules = refl });
       same_runs = λ input n. let b = ends_done name body sure input n in (Gives b.0 Done, b.1, b.2);
       never_wrong = λ input n out wrong.
           let b = ends_done name body sure input n in

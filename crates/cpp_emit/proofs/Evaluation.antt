@@ -26,14 +26,14 @@ one_module main = record { main = main; width = W32 }
 abbrev pub source_at : List Item → List Value → Map Global Value → List ℕ → List ℕ → Moment
 source_at control values globals input output =
     record {
-      frames = record { owner = 0; control = control; values = values } ∷ [];
+      frames = record { owner = 0; control = control; values = values; contexts = [] } ∷ [];
       world = record { globals = globals; input = input; output = output };
     }
 
 abbrev source_here : List Item → List Value → Map Global Value → List ℕ → List ℕ → Here
 source_here control values globals input output =
     record {
-      frame = record { owner = 0; control = control; values = values };
+      frame = record { owner = 0; control = control; values = values; contexts = [] };
       below = [];
       world = record { globals = globals; input = input; output = output };
     }

@@ -106,7 +106,7 @@ module _ (P : Program) where
   step_keeps : (control : List Item) (h : Here) → AreWhole h.frame.values → FramesAreWhole h.below → GlobalsAreWhole h.world.globals → Kept (step_in P control h)
   step_keeps [] h ws below globals = (below, globals)
   step_keeps (item ∷ control) h ws below globals =
-      act_keeps item (record { frame = record { owner = h.frame.owner; control = control; values = h.frame.values }; below = h.below; world = h.world }) ws below globals
+      act_keeps item (record { frame = record { owner = h.frame.owner; control = control; values = h.frame.values; contexts = h.frame.contexts }; below = h.below; world = h.world }) ws below globals
 
   keeps : (frames : List Frame) (world : World) → FramesAreWhole frames → GlobalsAreWhole world.globals → Kept (step_of P frames world)
   keeps [] world whole globals = tt

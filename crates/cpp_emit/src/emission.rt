@@ -1,14 +1,13 @@
 //! Statements and operands, and the program that they make.
 
 ghost use Rattle.std.specs.Prelude.{◌≡◌, [], ◌∷◌, ◌++◌, true, IfOk, OnOk, map, IsTrue, string_bytes};
-ghost use Rattle.runs.specs.Number.{W32};
 ghost use Rattle.py_meaning.specs.Rules.{are_reads_sure};
 ghost use Rattle.py_parser.specs.PlainTrees.{plain_expr, plain_binary, plain_stmt, plain_body, plain as plain_source};
 ghost use Rattle.cpp_ast.specs.Plain.{plain_expr as plain_operand, plain_binary as plain_operator, plain_block, plain_declaration, plain_definition, plain};
 ghost use Rattle.cpp_meaning.specs.Tree.{BodyHead, Body, Main};
 ghost use Rattle.shed_meaning.specs.EmittedName.{body_name as body_name_of};
 ghost use Rattle.shed_meaning.specs.Layout.{externs, variables};
-ghost use Rattle.shed_meaning.specs.Headline.{Translates};
+ghost use Rattle.cpp_emit.specs.Law.{IsTranslation};
 ghost use Rattle.cpp_emit.specs.Emit.{emit_operator as operator_of, emit_expr as operand_of, emit_block as block_of, prints, emit as emission_of};
 ghost use Rattle.cpp_emit.specs.Names.{texts};
 ghost use Rattle.cpp_emit.specs.Blocks.{followed_by, statements_of};
@@ -36,7 +35,7 @@ const PRINTED: u32 = 0;
 pub fn emit(alloc: Global, module: &Module, name: &str) -> Result<CppProgram, NoMemory>
     ensures function { IfOk result (λ c. plain c ≡ emission_of name.now (plain_source module.now)) }
     ensures translates { IfOk result (λ c. are_reads_sure [] (plain_source module.now) ≡ true →
-        Translates (record { main = record { name = name.now; body = plain_source module.now }; width = W32 }) (plain c)) }
+        IsTranslation name.now (plain_source module.now) (plain c)) }
 {
     match emit_program(alloc, module, name) {
         Ok(program) => Ok(program),

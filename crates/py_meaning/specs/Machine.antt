@@ -21,12 +21,18 @@ pub data Item : Type 0 where
   Bind : (name : Name) → Item
   Show : Item
 
+-- what a frame is in the midst of: a loop that is under way, with the items that come after it
+pub data Context : Type 0 where
+  Looping : (after : List Item) → Context
+
 -- a function, or the body of a module, that is being run
 pub record Frame : Type 0 where
   -- the number of the module that it belongs to
   pub owner : ℕ
   pub control : List Item
   pub values : List Value
+  -- what was entered last comes first
+  pub contexts : List Context
 
 pub record World : Type 0 where
   pub globals : Map Global Value
@@ -47,7 +53,7 @@ pub record Here : Type 0 where
 -- the moment that goes on with these items and values
 abbrev pub resume : Here → List Item → List Value → Moment
 resume h items values =
-    record { frames = record { owner = h.frame.owner; control = items; values = values } ∷ h.below; world = h.world }
+    record { frames = record { owner = h.frame.owner; control = items; values = values; contexts = h.frame.contexts } ∷ h.below; world = h.world }
 
 -- goes on with these items in front of what is left
 abbrev pub go : Here → List Item → List Value → Next Moment
@@ -117,7 +123,7 @@ act P Show h = show h h.frame.values
 abbrev pub step_in : Program → List Item → Here → Next Moment
 step_in P [] h = Goes (record { frames = h.below; world = h.world })
 step_in P (item ∷ control) h =
-    act P item (record { frame = record { owner = h.frame.owner; control = control; values = h.frame.values }; below = h.below; world = h.world })
+    act P item (record { frame = record { owner = h.frame.owner; control = control; values = h.frame.values; contexts = h.frame.contexts }; below = h.below; world = h.world })
 
 abbrev pub step_of : Program → List Frame → World → Next Moment
 step_of P [] world = Ends Done
@@ -130,6 +136,6 @@ machine P = record { step = λ m. step_of P m.frames m.world; output = λ m. m.w
 abbrev pub start : Program → List ℕ → Moment
 start P input =
     record {
-      frames = record { owner = 0; control = Run P.main.body ∷ []; values = [] } ∷ [];
+      frames = record { owner = 0; control = Run P.main.body ∷ []; values = []; contexts = [] } ∷ [];
       world = record { globals = nothing; input = input; output = [] };
     }

@@ -24,8 +24,7 @@ judged_text words files before now name text (Ready ready) read gives h =
       source = program name body;
       spelt = record { name = name; read = read; text = text; found = gives; short = short; body = body; source = source; is_program = refl };
       target = made.0;
-      translates = made.1;
-      files_are = made.2;
+      headline = made.1;
     }
 
 pub judged_missing : (words : List (List ℕ)) (files : Option Files) (before now : ℕ) (name : Name) (j : Judgement) → reading words ≡ Some name → GivesModule files name None → IsMissing name j → Judged words files before now j

@@ -8,7 +8,7 @@ use Rattle.py_meaning.specs.Source.{IsSource, most_bytes}
 use Rattle.shed_meaning.specs.Words.{reading}
 use Rattle.cpp_meaning.specs.Tree.{Program as CppProgram}
 use Rattle.cpp_meaning.specs.Text.{File}
-use Rattle.shed_meaning.specs.Headline.{written, Translates}
+use Rattle.shed_meaning.specs.Headline.{Headline}
 use Rattle.shed_meaning.specs.Outcome.{Missing, Unbuilt, message_of, program, GivesModule, Yields}
 use Rattle.shed_cli.specs.Plain.{plain_files}
 use Rattle.shed_cli.specs.declared.status.Status.{Status}
@@ -44,7 +44,7 @@ Judged words files before now (judged.Ready ready) = Yields words files (plain_f
 
 -- these files are the translation of a module of this name and body
 abbrev pub IsTranslation : Name → Body → List File → Type 0
-IsTranslation name body files = (C : CppProgram) × Translates (program name body) C × (files ≡ written (program name body) C)
+IsTranslation name body files = (C : CppProgram) × Headline (program name body) C files
 
 abbrev pub IsTooLongOrUnbuilt : List ℕ → Type 0
 IsTooLongOrUnbuilt text = (most_bytes < length text) ⊎ ((body : Body) → IsSource text body → ⊥)

@@ -16,10 +16,12 @@ use Rattle.shed_meaning.specs.Table.{table, makefile}
 abbrev pub written : Source → Program → List File
 written P C = files_of C ++ makefile P ∷ table P ∷ []
 
-pub record Translates (P : Source) (C : Program) : Type 0 where
+-- C is the C++ of the program P, and these are the files that are written for it: the headline's five parts
+pub record Headline (P : Source) (C : Program) (written_files : List File) : Type 0 where
+  -- the C++ files are the one text of C, and beside them stand the makefile and the types table
+  pub files : written_files ≡ written P C
   -- the C++ is well typed, and laid out as the table says
-  pub typed : IsTyped C
-  pub laid_out : Lays P C
+  pub typed : IsTyped C × Lays P C
   -- for every input and every n, after n ticks both runs have the same output and the same ending
   pub same_runs : (input : List ℕ) → SameRuns (source_machine P) (source_start P input) (machine C) (start C input)
   -- no run of the source meets an operation that has no case

@@ -10,7 +10,7 @@ use Rattle.py_meaning.specs.Source.{IsSource, most_bytes}
 use Rattle.cpp_meaning.specs.Tree.{Program as CppProgram}
 use Rattle.cpp_meaning.specs.Text.{File}
 use Rattle.shed_meaning.specs.Words.{reading}
-use Rattle.shed_meaning.specs.Headline.{written, Translates}
+use Rattle.shed_meaning.specs.Headline.{Headline}
 
 -- what the objects of the outside hold, where they tell it, and the faults that they have counted
 pub record World : Type 0 where
@@ -83,8 +83,7 @@ pub record Yields (words : List (List ℕ)) (told : Option Files) (files : List 
   pub source : Program
   pub spelt : Spells words told source
   pub target : CppProgram
-  pub translates : Translates source target
-  pub files_are : files ≡ written source target
+  pub headline : Headline source target files
 
 -- the first k of these files are whole, and a prefix of the next one stands under its name
 pub record BreaksOff (files : List File) (old new : Option Files) : Type 0 where

@@ -1,7 +1,6 @@
 use Rattle.std.proofs.Common.{sym, subst}
-use Rattle.runs.specs.Number.{W32}
 use Rattle.py_parser.specs.PlainTrees.{plain as plain_source}
-use Rattle.shed_meaning.specs.Headline.{Translates}
+use Rattle.cpp_emit.specs.Law.{IsTranslation}
 use Rattle.cpp_emit.proofs.EmissionTranslates.{emission_translates}
 use Rattle.cpp_emit.proofs.emission.emit.Goals as goal
 
@@ -9,4 +8,4 @@ pub returns-in-Ok-clause-translates : goal.returns-in-Ok-clause-translates
 returns-in-Ok-clause-translates c sure =
     let name = c.args.name.now in
     let body = plain_source c.args.module.now in
-    subst (Translates (record { main = record { name = name; body = body }; width = W32 })) (sym c.in-Ok.ensures) (emission_translates name body sure)
+    subst (IsTranslation name body) (sym c.in-Ok.ensures) (emission_translates name body sure)
