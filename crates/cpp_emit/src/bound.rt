@@ -11,7 +11,7 @@ use std::alloc::{AllocError, Global};
 
 /// The global names of a module, each once, in the order of their first bindings.
 pub fn names_bound(alloc: Global, module: &Module) -> Result<IndexSet<String>, AllocError>
-    ensures { IfOk result (λ names. texts names ≡ names_bound_by (plain module.now)) }
+    ensures { IfOk result (λ names. texts names ≡ names_bound_by (plain «module».now)) }
 {
     let mut names = IndexSet::new(alloc);
     for stmt in module.body.as_slice() {

@@ -33,9 +33,9 @@ const PRINTED: u32 = 0;
 /// The C++ of a module of this name. It is the translation of each module that reads no name before
 /// an assignment to it.
 pub fn emit(alloc: Global, module: &Module, name: &str) -> Result<CppProgram, NoMemory>
-    ensures function { IfOk result (λ c. plain c ≡ emission_of name.now (plain_source module.now)) }
-    ensures translates { IfOk result (λ c. are_reads_sure [] (plain_source module.now) ≡ true →
-        IsTranslation name.now (plain_source module.now) (plain c)) }
+    ensures function { IfOk result (λ c. plain c ≡ emission_of name.now (plain_source «module».now)) }
+    ensures translates { IfOk result (λ c. are_reads_sure [] (plain_source «module».now) ≡ true →
+        IsTranslation name.now (plain_source «module».now) (plain c)) }
 {
     match emit_program(alloc, module, name) {
         Ok(program) => Ok(program),
@@ -44,7 +44,7 @@ pub fn emit(alloc: Global, module: &Module, name: &str) -> Result<CppProgram, No
 }
 
 fn emit_program(alloc: Global, module: &Module, name: &str) -> Result<CppProgram, AllocError>
-    ensures { IfOk result (λ c. plain c ≡ emission_of name.now (plain_source module.now)) }
+    ensures { IfOk result (λ c. plain c ≡ emission_of name.now (plain_source «module».now)) }
 {
     let names = names_bound(alloc, module)?;
     let header = emit_header(alloc, &names, name)?;

@@ -63,7 +63,7 @@ fn push_sources(
 }
 
 fn header_of(alloc: Global, module: &CppModule) -> Result<File, AllocError>
-    ensures { IfOk result (λ file. plain_file file ≡ header_file (plain_module module.now)) }
+    ensures { IfOk result (λ file. plain_file file ≡ header_file (plain_module «module».now)) }
 {
     let name = file_name(alloc, module.name.as_str(), ".hpp")?;
     let mut bytes = Vec::from_slice(alloc, b"#pragma once\n#include \"shed-forward.hpp\"\n")?;
@@ -72,7 +72,7 @@ fn header_of(alloc: Global, module: &CppModule) -> Result<File, AllocError>
 }
 
 fn source_of(alloc: Global, modules: &[CppModule], module: &CppModule) -> Result<File, AllocError>
-    ensures { IfOk result (λ file. plain_file file ≡ source_file (map plain_module modules.now) (plain_module module.now)) }
+    ensures { IfOk result (λ file. plain_file file ≡ source_file (map plain_module modules.now) (plain_module «module».now)) }
 {
     let name = file_name(alloc, module.name.as_str(), ".cpp")?;
     let mut bytes = Vec::from_slice(
@@ -86,7 +86,7 @@ fn source_of(alloc: Global, modules: &[CppModule], module: &CppModule) -> Result
 
 /// The name of a module's file of a kind.
 pub fn file_name(alloc: Global, module: &str, ending: &str) -> Result<String, AllocError>
-    ensures { IfOk result (λ name. string_bytes name ≡ module.now ++ ending.now) }
+    ensures { IfOk result (λ name. string_bytes name ≡ «module».now ++ ending.now) }
 {
     let mut name = String::from_str(alloc, module)?;
     name.push_str(ending)?;

@@ -14,7 +14,7 @@ use std::alloc::{AllocError, Global};
 
 /// The types table of a module: one line for each global.
 pub fn types_table(alloc: Global, module: &Module, name: &str) -> Result<File, AllocError>
-    ensures { IfOk result (λ file. plain_file file ≡ table (record { main = record { name = name.now; body = plain module.now }; width = W32 })) }
+    ensures { IfOk result (λ file. plain_file file ≡ table (record { main = record { name = name.now; body = plain «module».now }; width = W32 })) }
 {
     let names = names_bound(alloc, module)?;
     let head = format!(in alloc;
@@ -27,7 +27,7 @@ pub fn types_table(alloc: Global, module: &Module, name: &str) -> Result<File, A
 }
 
 fn push_globals(out: &mut Vec<u8>, module: &str, names: &[String]) -> Result<(), AllocError>
-    ensures { OnOk result (out.new.items ≡ out.old.items ++ global_lines module.now (map string_bytes names.now)) }
+    ensures { OnOk result (out.new.items ≡ out.old.items ++ global_lines «module».now (map string_bytes names.now)) }
 {
     for name in names {
         push_global(out, module, name)?;
@@ -36,7 +36,7 @@ fn push_globals(out: &mut Vec<u8>, module: &str, names: &[String]) -> Result<(),
 }
 
 fn push_global(out: &mut Vec<u8>, module: &str, name: &str) -> Result<(), AllocError>
-    ensures { OnOk result (out.new.items ≡ out.old.items ++ global_line module.now name.now) }
+    ensures { OnOk result (out.new.items ≡ out.old.items ++ global_line «module».now name.now) }
 {
     out.extend_from_slice(b"global ")?;
     out.extend_from_slice(module.as_bytes())?;
@@ -48,7 +48,7 @@ fn push_global(out: &mut Vec<u8>, module: &str, name: &str) -> Result<(), AllocE
 
 /// The makefile of a program of this name, whose one source is the module's.
 pub fn make_file(alloc: Global, module: &Module, name: &str) -> Result<File, AllocError>
-    ensures { IfOk result (λ file. plain_file file ≡ makefile (record { main = record { name = name.now; body = plain module.now }; width = W32 })) }
+    ensures { IfOk result (λ file. plain_file file ≡ makefile (record { main = record { name = name.now; body = plain «module».now }; width = W32 })) }
 {
     let text = format!(in alloc;
         "CXX ?= g++\nCXXFLAGS ?= -O2\n{name}: {name}.cpp\n\t$(CXX) -std=c++20 -fwrapv $(CXXFLAGS) -o {name} {name}.cpp -lshed\n\n"

@@ -78,7 +78,7 @@ fn judge_text(alloc: Global, name: &str, text: &[u8]) -> Judgement
 
 /// The files of a module's translation, in the order in which they are written.
 fn translate(alloc: Global, module: &Module, name: &str) -> Result<Vec<File>, NoMemory>
-    ensures { IfOk result (λ files. are_reads_sure [] (plain_source module.now) ≡ true → IsTranslation name.now (plain_source module.now) (plain_files files.items)) }
+    ensures { IfOk result (λ files. are_reads_sure [] (plain_source «module».now) ≡ true → IsTranslation name.now (plain_source «module».now) (plain_files files.items)) }
 {
     let program = emit(alloc, module, name)?;
     let mut files = cpp_files(alloc, &program)?;
