@@ -1,4 +1,4 @@
 pub mod TreeVectors
 mod TextVectors
-mod TypingVectors
+pub mod TypingVectors
 mod MachineVectors

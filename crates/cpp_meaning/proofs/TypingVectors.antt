@@ -7,7 +7,7 @@ use Rattle.cpp_meaning.proofs.TreeVectors.{g, t, body, write, declare, program, 
 
 -- ---- whole programs
 
-sum_typed : IsTyped sum
+pub sum_typed : IsTyped sum
 unfolding put
 sum_typed =
     record {

@@ -6,3 +6,4 @@ pub mod TableVectors
 mod LexerVectors
 mod MachineVectors
 mod RuleVectors
+pub mod SourceVectors

@@ -10,17 +10,17 @@ use Rattle.cpp_meaning.specs.Tree.{Int32, ZeroNumber, Declare, Extern, Variable,
 use Rattle.cpp_meaning.proofs.TreeVectors.{sum_block, sum, wrapped_sum}
 use Rattle.shed_meaning.specs.Layout.{HasTemporariesAlone, Lays, externs, variables}
 
-abbrev at : ℕ → ℕ → Place
+abbrev pub at : ℕ → ℕ → Place
 at line column = record { «module» = 0; line = line; column = column }
 
-abbrev x : Name
+abbrev pub x : Name
 x = codes "x"
 
-abbrev source : Body → Source
+abbrev pub source : Body → Source
 source block = record { main = record { name = codes "main"; body = block }; width = W32 }
 
 -- x = 1, print(x + 2)
-abbrev sum_source : Source
+abbrev pub sum_source : Source
 sum_source =
     source (more (SAssign (at 1 1) x (ENumber (at 1 5) 1))
     (more (SPrint (at 2 1) (at 2 6) (EBinary (at 2 9) Add (EName (at 2 7) x) (ENumber (at 2 11) 2))) none))
@@ -29,7 +29,7 @@ sum_source =
 abbrev wrapped_source : Source
 wrapped_source = source (more (SPrint (at 1 1) (at 1 6) (EBinary (at 1 18) Add (ENumber (at 1 7) 2147483647) (ENumber (at 1 20) 1))) none)
 
-sum_laid_out : Lays sum_source sum
+pub sum_laid_out : Lays sum_source sum
 unfolding digits
 sum_laid_out = record { block = sum_block; temporaries = (0, refl, tt); modules = refl }
 

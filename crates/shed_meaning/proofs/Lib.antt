@@ -1,4 +1,6 @@
 mod NameVectors
 mod TableVectors
 mod WordVectors
-mod LayoutVectors
+pub mod LayoutVectors
+pub mod HeadlineVectors
+mod OutcomeVectors
