@@ -17,7 +17,7 @@ use Rattle.py_meaning.specs.Program.{Module, Program as Source, Global, In, same
 use Rattle.py_meaning.specs.Machine.{Run, Do, Evaluate, Bind, Show, Moment as SourceMoment, machine as source_machine, start as source_start}
 use Rattle.cpp_meaning.specs.Tree.{Identifier, same_identifier, Int32, Text, NullPointer, Expr as CppExpr, Named, Literal, TextOf, Write, Operand, CallRow, Declare, Assign, Perform, Block, none, more, Body as BodyDefinition, Main, Program, sources_of}
 use Rattle.cpp_meaning.specs.Typing.{Types, inner_first, in_scope, type_of, global_types}
-use Rattle.cpp_meaning.specs.Machine.{Cells, Word, Characters, Null, held, evaluate, Moment, Here, go, store, with_written, row_cell, row_writes, machine, block_in, first_cells, started, start}
+use Rattle.cpp_meaning.specs.Machine.{Cells, Word, Characters, Null, held, evaluate, Moment, Here, go, store, with_written, after_writing, row_cell, row_writes, machine, block_in, first_cells, started, start}
 use Rattle.shed_meaning.specs.EmittedName.{global_name, body_name}
 use Rattle.shed_meaning.specs.Layout.{variables}
 use Rattle.cpp_emit.specs.Emit.{emit_expr, printed, emit_body, prints, emit_block, emit}
@@ -95,8 +95,9 @@ module _ (main : Module) (C : Program) (locals_types : Types) (hidden : Hides lo
   -- it is written
   write_step : (rest : Block) (t : List ℕ) (locals cells : Cells) (input output : List ℕ) → locals_types printed ≡ Some Text → locals printed ≡ Some (Characters t) → (machine C).step (target_at locals_types (more (Perform (CallRow Write (Named printed ∷ []))) rest) locals cells input output) ≡ Goes (target_at locals_types rest locals cells input (output ++ t))
   write_step rest t locals cells input output text v =
-      ap (λ o. go (with_written (target_here locals_types locals cells input output) (row_writes Write (inner_first o (global_types C printed) ∷ []) (held (inner_first (locals printed) (cells printed)) ∷ []))) (rest ∷ [])) text
-      ∙ ap (λ o. go (with_written (target_here locals_types locals cells input output) (row_writes Write (Some Text ∷ []) (held (inner_first o (cells printed)) ∷ []))) (rest ∷ [])) v
+      let further = λ (out : List ℕ). go (with_written (target_here locals_types locals cells input output) out) (rest ∷ []) in
+      ap (λ o. after_writing (row_writes Write (inner_first o (global_types C printed) ∷ []) (held (inner_first (locals printed) (cells printed)) ∷ [])) further) text
+      ∙ ap (λ o. after_writing (row_writes Write (Some Text ∷ []) (held (inner_first o (cells printed)) ∷ [])) further) v
 
   -- both runs end Done, with one output
   abbrev Both : ℕ → Source → SourceMoment → Moment → Type 0

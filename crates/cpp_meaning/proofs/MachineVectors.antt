@@ -3,7 +3,7 @@ use Rattle.std.proofs.Common.{◌≡◌, ℕ, pos, negsuc, List, [], ◌∷◌, 
 use Rattle.std.specs.Int.{int_wrap}
 use Rattle.std.specs.Fmt.{digits}
 use Rattle.runs.specs.FiniteMap.{nothing, put}
-use Rattle.runs.specs.Run.{Done, Gives, ComesTo}
+use Rattle.runs.specs.Run.{Done, Raised, Gives, ComesTo}
 use Rattle.runs.specs.Moment.{moment_at}
 use Rattle.cpp_meaning.specs.Tree.{Identifier, CppType, Int32, Text, ZeroNumber, NullPointer, Plus, Minus, Times, Expr, Named, Number, Literal, Operate, Negate, TextOf, Operand, CallRow, Declare, Assign, Block, none, more, Extern, BodyHead, Variable, Body, Main, Program}
 use Rattle.cpp_meaning.specs.Typing.{Types}
@@ -121,3 +121,15 @@ typed_sum = (refl, refl)
 texts_of_cells : (text_of_cell Int32 (Word (negsuc 9)) ≡ codes "-10") × (text_of_cell Text (Characters (codes "7a")) ≡ codes "7a")
 unfolding digits
 texts_of_cells = (refl, refl)
+
+-- ---- null
+
+-- `str` of a null text is that of None
+null_text : (text_of_cell Text Null ≡ codes "None") × Writes (of_body (more (Declare Text t NullPointer) (more (Assign t (CallRow TextOf (Named t ∷ []))) (more (write (Named t)) none)))) (codes "None")
+unfolding put
+null_text = (refl, λ input n. (20, refl))
+
+-- a null text can't be written
+null_write : (input : List ℕ) (n : ℕ) → let P = of_body (more (Declare Text t NullPointer) (more (write (Named t)) none)) in ComesTo (machine P) n (start P input) (Gives [] (Raised (codes "AttributeError") (codes "null")))
+unfolding put
+null_write input n = (20, refl)

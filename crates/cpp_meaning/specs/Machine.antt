@@ -1,8 +1,8 @@
 -- The C++ machine. Cells carry no tag: each operation is picked by declared types (ISO C++, "Expressions"; signed
 -- arithmetic wraps, as `-fwrapv` has it). The rows are the support library.
-use Rattle.std.specs.Prelude.{ℕ, ℤ, pos, ◌+ℤ◌, ◌-ℤ◌, ◌*ℤ◌, List, [], ◌∷◌, ◌++◌, Option, Some, None, if◌then◌else◌}
+use Rattle.std.specs.Prelude.{ℕ, ℤ, pos, ◌+ℤ◌, ◌-ℤ◌, ◌*ℤ◌, List, [], ◌∷◌, ◌++◌, Option, Some, None, if◌then◌else◌, codes}
 use Rattle.runs.specs.Number.{W32, wrapped, decimal_of}
-use Rattle.runs.specs.Run.{Done, Next, Goes, Ends, Machine}
+use Rattle.runs.specs.Run.{Done, Raised, Next, Goes, Ends, Machine}
 use Rattle.runs.specs.FiniteMap.{Map, nothing, put}
 use Rattle.cpp_meaning.specs.Tree.{Identifier, same_identifier, CppType, Int32, Text, Zero, ZeroNumber, NullPointer, Operator, Plus, Minus, Times, Expr, Named, Number, Literal, Operate, Negate, Row, TextOf, Write, Value, Operand, CallRow, Stmt, Declare, Assign, Perform, Block, none, more, Definition, Variable, Body, Main, Program, sources_of}
 use Rattle.cpp_meaning.specs.Typing.{Types, inner_first, in_scope, type_of, types_of, global_types, mains}
@@ -25,11 +25,17 @@ word_of (Characters t) = pos 0
 word_of (Reference n) = pos 0
 word_of Null = pos 0
 
-abbrev pub characters_of : Cell → List ℕ
-characters_of (Word z) = []
-characters_of (Characters t) = t
-characters_of (Reference n) = []
-characters_of Null = []
+-- the text that a cell points to, where it isn't null
+abbrev pub pointed_to : Cell → Option (List ℕ)
+pointed_to (Word z) = Some []
+pointed_to (Characters t) = Some t
+pointed_to (Reference n) = Some []
+pointed_to Null = None
+
+-- `str` of a pointer to a text: null stands for None
+abbrev pub text_or_none : Option (List ℕ) → List ℕ
+text_or_none (Some t) = t
+text_or_none None = codes "None"
 
 abbrev pub held : Option Cell → Cell
 held None = Null
@@ -64,7 +70,7 @@ evaluate_all types cells (e ∷ es) = evaluate types cells e ∷ evaluate_all ty
 -- the text of a cell of a type
 abbrev pub text_of_cell : CppType → Cell → List ℕ
 text_of_cell Int32 c = decimal_of (word_of c)
-text_of_cell Text c = characters_of c
+text_of_cell Text c = text_or_none (pointed_to c)
 
 pub record Frame : Type 0 where
   pub control : List Block
@@ -139,29 +145,36 @@ abbrev pub store : Option CppType → Here → Identifier → Cell → Here
 store (Some t) h x c = with_local h x c
 store None h x c = with_global h x c
 
--- what a row gives, and what it writes, by the types of its operands
+-- what a row gives, by the types of its operands
 abbrev pub row_cell : Row → List (Option CppType) → List Cell → Cell
 row_cell TextOf (Some t ∷ []) (c ∷ []) = Characters (text_of_cell t c)
 row_cell _ _ _ = Null
 
-abbrev pub row_writes : Row → List (Option CppType) → List Cell → List ℕ
-row_writes Write (Some t ∷ []) (c ∷ []) = text_of_cell t c
-row_writes _ _ _ = []
+-- what a row writes; a null text can't be written
+abbrev pub row_writes : Row → List (Option CppType) → List Cell → Option (List ℕ)
+row_writes Write (Some Text ∷ []) (c ∷ []) = pointed_to c
+row_writes _ _ _ = Some []
 
 abbrev pub value_cell : Types → Cells → Value → Cell
 value_cell types cells (Operand e) = evaluate types cells e
 value_cell types cells (CallRow row es) = row_cell row (types_of types es) (evaluate_all types cells es)
 
-abbrev pub value_writes : Types → Cells → Value → List ℕ
-value_writes types cells (Operand e) = []
+abbrev pub value_writes : Types → Cells → Value → Option (List ℕ)
+value_writes types cells (Operand e) = Some []
 value_writes types cells (CallRow row es) = row_writes row (types_of types es) (evaluate_all types cells es)
+
+-- goes on with what is written, or raises where null is read through
+abbrev pub after_writing : Option (List ℕ) → (List ℕ → Next Moment) → Next Moment
+after_writing None further = Ends (Raised (codes "AttributeError") (codes "null"))
+after_writing (Some text) further = further text
 
 -- what a statement does, where this block comes after it
 abbrev pub act : Program → Stmt → Block → Here → Next Moment
 act P (Declare t x z) rest h = go (with_declared h t x (zero_cell z)) (rest ∷ [])
 act P (Assign x v) rest h =
-    go (store (h.frame.types x) (with_written h (value_writes (types_here P h) (cells_here h) v)) x (value_cell (types_here P h) (cells_here h) v)) (rest ∷ [])
-act P (Perform v) rest h = go (with_written h (value_writes (types_here P h) (cells_here h) v)) (rest ∷ [])
+    after_writing (value_writes (types_here P h) (cells_here h) v)
+    (λ text. go (store (h.frame.types x) (with_written h text) x (value_cell (types_here P h) (cells_here h) v)) (rest ∷ []))
+act P (Perform v) rest h = after_writing (value_writes (types_here P h) (cells_here h) v) (λ text. go (with_written h text) (rest ∷ []))
 
 abbrev pub step_block : Program → Block → Here → Next Moment
 step_block P none h = go h []

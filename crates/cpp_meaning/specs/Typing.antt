@@ -1,7 +1,8 @@
 -- Which trees are well typed (ISO C++, "Basic concepts": declarations and scope; "Expressions"): each name is declared
 -- once, each expression has one declared type, and nothing converts. Each declaration of a header has its one definition,
 -- of the same type.
-use Rattle.std.specs.Prelude.{◌≡◌, List, [], ◌∷◌, Bool, true, false, Option, Some, None, if◌then◌else◌}
+use Rattle.std.specs.Prelude.{◌≡◌, List, [], ◌∷◌, Bool, true, false, Option, Some, None, if◌then◌else◌, nat_le}
+use Rattle.std.specs.List.{list_all}
 use Rattle.runs.specs.FiniteMap.{Map, nothing, put}
 use Rattle.cpp_meaning.specs.Tree.{Identifier, same_identifier, CppType, Int32, Text, Zero, ZeroNumber, NullPointer, Expr, Named, Number, Literal, Operate, Negate, Row, TextOf, Write, Value, Operand, CallRow, Declare, Assign, Perform, Block, none, more, Declaration, Extern, BodyHead, Definition, Variable, Body, Main, Program, headers_of, sources_of}
 
@@ -29,7 +30,8 @@ type_of_sum None b = None
 abbrev pub type_of : Types → Expr → Option CppType
 type_of types (Named x) = types x
 type_of types (Number n) = Some Int32
-type_of types (Literal t) = Some Text
+-- a text has code points 0 to 127
+type_of types (Literal t) = if list_all (λ c. nat_le c 127) t then Some Text else None
 type_of types (Operate o a b) = type_of_sum (type_of types a) (type_of types b)
 type_of types (Negate e) = type_of_sum (type_of types e) (type_of types e)
 

@@ -3,3 +3,4 @@ pub mod Simulation
 pub mod Existence
 pub mod Moments
 pub mod FiniteMaps
+pub mod RunVectors

@@ -10,10 +10,11 @@ use Rattle.runs.proofs.OneResult.{one_result}
 use Rattle.py_meaning.specs.Value.{Value, VInt, IsWhole}
 use Rattle.py_meaning.specs.Program.{Global, In, same_global}
 use Rattle.py_meaning.specs.Machine.{Moment, machine as source_machine, start as source_start}
+use Rattle.cpp_meaning.specs.Text.{File}
 use Rattle.cpp_meaning.specs.Machine.{machine, start}
 use Rattle.cpp_meaning.proofs.TreeVectors.{sum, wrapped_sum}
 use Rattle.cpp_meaning.proofs.TypingVectors.{sum_typed}
-use Rattle.shed_meaning.specs.Headline.{Translates}
+use Rattle.shed_meaning.specs.Headline.{written, Headline}
 use Rattle.shed_meaning.proofs.LayoutVectors.{x, sum_source, sum_laid_out}
 
 source_runs : (input : List ℕ) (n : ℕ) → ComesTo (source_machine sum_source) n (source_start sum_source input) (Gives (codes "3\n") Done)
@@ -57,11 +58,11 @@ are_whole input (suc (suc (suc (suc (suc (suc (suc (suc (suc (suc (suc (suc zero
 are_whole input (suc (suc (suc (suc (suc (suc (suc (suc (suc (suc (suc (suc (suc zero))))))))))))) = λ g v e. one_whole (same_global (In 0 x) g) v e
 are_whole input (suc (suc (suc (suc (suc (suc (suc (suc (suc (suc (suc (suc (suc (suc k)))))))))))))) = tt
 
-pub sum_translates : Translates sum_source sum
-sum_translates =
+pub sum_headline : Headline sum_source sum (written sum_source sum)
+sum_headline =
     record {
-      typed = sum_typed;
-      laid_out = sum_laid_out;
+      files = refl;
+      typed = (sum_typed, sum_laid_out);
       same_runs = λ input n. (Gives (codes "3\n") Done, source_runs input n, target_runs input n);
       never_wrong = never_wrong;
       moments = λ input k m e. subst AreWhole e (are_whole input k);
@@ -72,8 +73,8 @@ other_runs : ComesTo (machine wrapped_sum) 0 (start wrapped_sum []) (Gives (code
 unfolding put int_wrap digits
 other_runs = (20, refl)
 
-other_translates : Translates sum_source wrapped_sum → ⊥
-other_translates t =
+other_headline : (files : List File) → Headline sum_source wrapped_sum files → ⊥
+other_headline files t =
     let r : (r : Result) × ComesTo (source_machine sum_source) 0 (source_start sum_source []) r × ComesTo (machine wrapped_sum) 0 (start wrapped_sum []) r = t.same_runs [] 0 in
     let one : Gives (codes "3\n") Done ≡ r.0 = one_result (source_machine sum_source) 0 (source_start sum_source []) _ _ (source_runs [] 0) r.1 in
     let other : Gives (codes "-2147483648\n") Done ≡ r.0 = one_result (machine wrapped_sum) 0 (start wrapped_sum []) _ _ other_runs r.2 in

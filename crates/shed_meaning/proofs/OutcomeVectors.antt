@@ -12,7 +12,7 @@ use Rattle.cpp_meaning.proofs.TreeVectors.{sum}
 use Rattle.shed_meaning.specs.Headline.{written}
 use Rattle.shed_meaning.specs.Outcome.{World, Translated, Unread, Missing, Unbuilt, ReadFailed, WriteFailed, OutOfMemory, GivesModule, Spells, Yields, with_files, message_of, Says, Tells, Holds, Cause, Ends}
 use Rattle.shed_meaning.proofs.LayoutVectors.{sum_source}
-use Rattle.shed_meaning.proofs.HeadlineVectors.{sum_translates}
+use Rattle.shed_meaning.proofs.HeadlineVectors.{sum_headline}
 
 abbrev words : List (List ℕ)
 words = codes "translate" ∷ codes "main" ∷ []
@@ -55,7 +55,7 @@ abbrev files : List File
 files = written sum_source sum
 
 sum_yields : Yields words (Some (folder sum_text)) files
-sum_yields = record { source = sum_source; spelt = sum_spelt; target = sum; translates = sum_translates; files_are = refl }
+sum_yields = record { source = sum_source; spelt = sum_spelt; target = sum; headline = sum_headline }
 
 abbrev told : List File → Option Files
 told written = with_files (Some (folder sum_text)) written
