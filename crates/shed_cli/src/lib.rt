@@ -13,3 +13,6 @@ mod writing;
 
 pub use status::Status;
 pub use top::shed;
+
+#[cfg(test)]
+mod tests;
