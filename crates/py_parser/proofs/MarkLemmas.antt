@@ -70,13 +70,40 @@ other a z e1 e2 e3 e4 e5 e6 e7 e8 e9 e10 = simp (e1, e2, e3, e4, e5, e6, e7, e8,
 pub mark_at-operators : (z : Text) → mark_at operators z ≡ mark_by (slice_index z 0) (slice_index z 1)
 mark_at-operators [] = refl
 mark_at-operators (a ∷ z) =
-    elim (eqb_tells a 61) [ inl h ↦ rw h.1 (equals z) | inr h1 ↦
-    elim (eqb_tells a 43) [ inl h ↦ rw h.1 (plus z) | inr h2 ↦
-    elim (eqb_tells a 45) [ inl h ↦ rw h.1 (minus z) | inr h3 ↦
-    elim (eqb_tells a 42) [ inl h ↦ rw h.1 (star z) | inr h4 ↦
-    elim (eqb_tells a 40) [ inl h ↦ rw h.1 refl | inr h5 ↦
-    elim (eqb_tells a 41) [ inl h ↦ rw h.1 refl | inr h6 ↦
-    elim (eqb_tells a 58) [ inl h ↦ rw h.1 (colon z) | inr h7 ↦
-    elim (eqb_tells a 60) [ inl h ↦ rw h.1 (less z) | inr h8 ↦
-    elim (eqb_tells a 62) [ inl h ↦ rw h.1 (greater z) | inr h9 ↦
-    elim (eqb_tells a 33) [ inl h ↦ rw h.1 (differs z) | inr h10 ↦ other a z h1.0 h2.0 h3.0 h4.0 h5.0 h6.0 h7.0 h8.0 h9.0 h10.0 ] ] ] ] ] ] ] ] ] ]
+    elim (eqb_tells a 61) [
+      | inl h ↦ rw h.1 (equals z)
+      | inr h1 ↦
+          elim (eqb_tells a 43) [
+            | inl h ↦ rw h.1 (plus z)
+            | inr h2 ↦
+                elim (eqb_tells a 45) [
+                  | inl h ↦ rw h.1 (minus z)
+                  | inr h3 ↦
+                      elim (eqb_tells a 42) [
+                        | inl h ↦ rw h.1 (star z)
+                        | inr h4 ↦
+                            elim (eqb_tells a 40) [
+                              | inl h ↦ rw h.1 refl
+                              | inr h5 ↦
+                                  elim (eqb_tells a 41) [
+                                    | inl h ↦ rw h.1 refl
+                                    | inr h6 ↦
+                                        elim (eqb_tells a 58) [
+                                          | inl h ↦ rw h.1 (colon z)
+                                          | inr h7 ↦
+                                              elim (eqb_tells a 60) [
+                                                | inl h ↦ rw h.1 (less z)
+                                                | inr h8 ↦
+                                                    elim (eqb_tells a 62) [
+                                                      | inl h ↦ rw h.1 (greater z)
+                                                      | inr h9 ↦
+                                                          elim (eqb_tells a 33) [ inl h ↦ rw h.1 (differs z) | inr h10 ↦ other a z h1.0 h2.0 h3.0 h4.0 h5.0 h6.0 h7.0 h8.0 h9.0 h10.0 ]
+                                                    ]
+                                              ]
+                                        ]
+                                  ]
+                            ]
+                      ]
+                ]
+          ]
+    ]

@@ -181,17 +181,47 @@ no_mark b s m len e1 e2 e3 e4 e5 e6 e7 e8 e9 e10 h = absurd (let none : ◌≡�
 
 mark_cases : (b s : ℕ) (m : Mark) (len : ℕ) → mark_by b s ≡ Some (m, len) → MarkCases b s m len
 mark_cases b s m len h =
-    elim (eqb_tells b 61) [ inl e ↦ at_byte b 61 s m len e.1 (λ h. inr (inr (either_mark 61 s Same Equals m len (refl, refl, refl, refl) (λ d. refl) (λ d. refl) h))) h | inr h1 ↦
-    elim (eqb_tells b 43) [ inl e ↦ at_byte b 43 s m len e.1 (λ h. inr (inr (short_mark 43 s Plus m len (nat_eq s 61) (refl, refl, refl, refl) (λ d. refl) h))) h | inr h2 ↦
-    elim (eqb_tells b 45) [ inl e ↦ at_byte b 45 s m len e.1 (λ h. inr (inr (short_mark 45 s Minus m len (nat_eq s 62 || nat_eq s 61) (refl, refl, refl, refl) (λ d. refl) h))) h | inr h3 ↦
-    elim (eqb_tells b 42) [ inl e ↦ at_byte b 42 s m len e.1 (λ h. inr (inr (short_mark 42 s Star m len (nat_eq s 42 || nat_eq s 61) (refl, refl, refl, refl) (λ d. refl) h))) h | inr h4 ↦
-    elim (eqb_tells b 40) [ inl e ↦ at_byte b 40 s m len e.1 (open_mark s m len) h | inr h5 ↦
-    elim (eqb_tells b 41) [ inl e ↦ at_byte b 41 s m len e.1 (close_mark s m len) h | inr h6 ↦
-    elim (eqb_tells b 58) [ inl e ↦ at_byte b 58 s m len e.1 (λ h. inr (inr (short_mark 58 s Colon m len (nat_eq s 61) (refl, refl, refl, refl) (λ d. refl) h))) h | inr h7 ↦
-    elim (eqb_tells b 60) [ inl e ↦ at_byte b 60 s m len e.1 (λ h. inr (inr (shift_mark 60 s LessOrEqual Less m len (nat_eq s 60) (refl, refl, refl, refl) (λ d. refl) (λ d. refl) h))) h | inr h8 ↦
-    elim (eqb_tells b 62) [ inl e ↦ at_byte b 62 s m len e.1 (λ h. inr (inr (shift_mark 62 s GreaterOrEqual Greater m len (nat_eq s 62) (refl, refl, refl, refl) (λ d. refl) (λ d. refl) h))) h | inr h9 ↦
-    elim (eqb_tells b 33) [ inl e ↦ at_byte b 33 s m len e.1 (λ h. inr (inr (paired_mark 33 s Differs m len (refl, refl, refl, refl) (λ d. refl) h))) h | inr h10 ↦
-    no_mark b s m len h1.0 h2.0 h3.0 h4.0 h5.0 h6.0 h7.0 h8.0 h9.0 h10.0 h ] ] ] ] ] ] ] ] ] ]
+    elim (eqb_tells b 61) [
+      | inl e ↦ at_byte b 61 s m len e.1 (λ h. inr (inr (either_mark 61 s Same Equals m len (refl, refl, refl, refl) (λ d. refl) (λ d. refl) h))) h
+      | inr h1 ↦
+          elim (eqb_tells b 43) [
+            | inl e ↦ at_byte b 43 s m len e.1 (λ h. inr (inr (short_mark 43 s Plus m len (nat_eq s 61) (refl, refl, refl, refl) (λ d. refl) h))) h
+            | inr h2 ↦
+                elim (eqb_tells b 45) [
+                  | inl e ↦ at_byte b 45 s m len e.1 (λ h. inr (inr (short_mark 45 s Minus m len (nat_eq s 62 || nat_eq s 61) (refl, refl, refl, refl) (λ d. refl) h))) h
+                  | inr h3 ↦
+                      elim (eqb_tells b 42) [
+                        | inl e ↦ at_byte b 42 s m len e.1 (λ h. inr (inr (short_mark 42 s Star m len (nat_eq s 42 || nat_eq s 61) (refl, refl, refl, refl) (λ d. refl) h))) h
+                        | inr h4 ↦
+                            elim (eqb_tells b 40) [
+                              | inl e ↦ at_byte b 40 s m len e.1 (open_mark s m len) h
+                              | inr h5 ↦
+                                  elim (eqb_tells b 41) [
+                                    | inl e ↦ at_byte b 41 s m len e.1 (close_mark s m len) h
+                                    | inr h6 ↦
+                                        elim (eqb_tells b 58) [
+                                          | inl e ↦ at_byte b 58 s m len e.1 (λ h. inr (inr (short_mark 58 s Colon m len (nat_eq s 61) (refl, refl, refl, refl) (λ d. refl) h))) h
+                                          | inr h7 ↦
+                                              elim (eqb_tells b 60) [
+                                                | inl e ↦ at_byte b 60 s m len e.1 (λ h. inr (inr (shift_mark 60 s LessOrEqual Less m len (nat_eq s 60) (refl, refl, refl, refl) (λ d. refl) (λ d. refl) h))) h
+                                                | inr h8 ↦
+                                                    elim (eqb_tells b 62) [
+                                                      | inl e ↦ at_byte b 62 s m len e.1 (λ h. inr (inr (shift_mark 62 s GreaterOrEqual Greater m len (nat_eq s 62) (refl, refl, refl, refl) (λ d. refl) (λ d. refl) h))) h
+                                                      | inr h9 ↦
+                                                          elim (eqb_tells b 33) [
+                                                            | inl e ↦ at_byte b 33 s m len e.1 (λ h. inr (inr (paired_mark 33 s Differs m len (refl, refl, refl, refl) (λ d. refl) h))) h
+                                                            | inr h10 ↦
+                                                                no_mark b s m len h1.0 h2.0 h3.0 h4.0 h5.0 h6.0 h7.0 h8.0 h9.0 h10.0 h
+                                                          ]
+                                                    ]
+                                              ]
+                                        ]
+                                  ]
+                            ]
+                      ]
+                ]
+          ]
+    ]
 
 lines_of-open : (d : ℕ) (y : Text) → lines_of d (40 ∷ y) ≡ option_map (put_all (40 ∷ [])) (lines_of (suc d) y)
 lines_of-open zero y = refl
