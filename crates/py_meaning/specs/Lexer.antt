@@ -1,12 +1,12 @@
 -- The tokens of a module's text, as far as the language has them today (Python reference, "Lexical analysis"; the words
 -- in quotes below are its sections). A text with anything else in it has none: tabs, comments, backslashes, texts in
--- quotes, indentation, bytes beyond ASCII, and so on. A text is cut into logical lines, and each of these into tokens.
+-- quotes, bytes beyond ASCII, and so on. A text is cut into logical lines, and each of these into tokens.
 use Rattle.std.specs.Prelude.{ℕ, zero, suc, ◌+◌, ◌-◌, ◌*◌, Bool, true, false, not, ◌&&◌, ◌||◌, if◌then◌else◌, ◌==◌, nat_le, nat_lt, List, [], ◌∷◌, length, codes, Option, Some, None}
 use Rattle.std.specs.Char.{is_ascii_digit, is_ascii_alphanumeric}
-use Rattle.std.specs.List.{take_while, list_all, list_any}
+use Rattle.std.specs.List.{take_while, prefix_len, list_all, list_any}
 use Rattle.std.specs.Option.{option_map, option_and_then}
 use Rattle.py_meaning.specs.Name.{same_name}
-use Rattle.py_meaning.specs.Token.{Place, Mark, Equals, Plus, Minus, Star, Open, Close, Kind, TName, TNumber, TPrint, TMark, TNewline, Token, At}
+use Rattle.py_meaning.specs.Token.{Place, Mark, Equals, Plus, Minus, Star, Open, Close, Colon, Less, LessOrEqual, Greater, GreaterOrEqual, Same, Differs, Kind, TName, TNumber, TPrint, TMark, TNewline, TIndent, TDedent, TIf, TElse, TWhile, Token, At}
 
 abbrev pub Text : Type 0
 Text = List ℕ
@@ -73,7 +73,7 @@ lines_of d (b ∷ z) =
 abbrev pub is_name_part : ℕ → Bool
 is_name_part b = is_ascii_alphanumeric b || b == 95
 
--- names that have no token yet ("Keywords")
+-- names that no module may bind: keywords ("Keywords"), and `__name__`
 abbrev pub barred : List Text
 barred =
     codes "False" ∷ codes "None" ∷ codes "True" ∷ codes "and" ∷ codes "as" ∷ codes "assert" ∷ codes "async" ∷ codes "await" ∷ codes "break"
@@ -86,11 +86,22 @@ barred =
 abbrev pub longest_name : ℕ
 longest_name = 1000
 
--- a name ("Identifiers and keywords"): `print` has a token of its own
+-- the keywords that have a token yet
+abbrev pub keywords : List (Text × Kind)
+keywords = (codes "if", TIf) ∷ (codes "else", TElse) ∷ (codes "while", TWhile) ∷ []
+
+-- the kind of a word, if it is one of some keywords, and else another
+abbrev pub keyword_or : Option Kind → List (Text × Kind) → Text → Option Kind
+keyword_or other [] w = other
+keyword_or other (row ∷ rows) w = if same_name w row.0 then Some row.1 else keyword_or other rows w
+
+-- a name's kind, unless it is barred: `print` has one of its own
+abbrev pub name_kind : Text → Option Kind
+name_kind w = if list_any (same_name w) barred then None else Some (if same_name w (codes "print") then TPrint else TName w)
+
+-- a name or a keyword ("Identifiers and keywords")
 abbrev pub name : Text → Option (Kind × ℕ)
-name w =
-    if nat_lt longest_name (length w) || list_any (same_name w) barred then None
-    else Some (if same_name w (codes "print") then TPrint else TName w, length w)
+name w = if nat_lt longest_name (length w) then None else option_map (λ kind. (kind, length w)) (keyword_or (name_kind w) keywords w)
 
 -- the value of decimal digits, behind others whose value is v
 abbrev pub value_from : ℕ → Text → ℕ
@@ -111,20 +122,20 @@ number w = if is_number w then Some (TNumber (value_from 0 w), length w) else No
 abbrev pub operators : List (Text × Option Mark)
 operators =
     (codes "**=", None) ∷ (codes "//=", None) ∷ (codes "<<=", None) ∷ (codes ">>=", None) ∷ (codes "...", None)
-    ∷ (codes "**", None) ∷ (codes "//", None) ∷ (codes "<<", None) ∷ (codes ">>", None) ∷ (codes "<=", None) ∷ (codes ">=", None)
-    ∷ (codes "==", None) ∷ (codes "!=", None) ∷ (codes "->", None) ∷ (codes "+=", None) ∷ (codes "-=", None) ∷ (codes "*=", None)
+    ∷ (codes "**", None) ∷ (codes "//", None) ∷ (codes "<<", None) ∷ (codes ">>", None) ∷ (codes "<=", Some LessOrEqual)
+    ∷ (codes ">=", Some GreaterOrEqual) ∷ (codes "==", Some Same) ∷ (codes "!=", Some Differs) ∷ (codes "->", None) ∷ (codes "+=", None) ∷ (codes "-=", None) ∷ (codes "*=", None)
     ∷ (codes "/=", None) ∷ (codes "%=", None) ∷ (codes "@=", None) ∷ (codes "&=", None) ∷ (codes "|=", None) ∷ (codes "^=", None)
     ∷ (codes ":=", None)
     ∷ (codes "+", Some Plus) ∷ (codes "-", Some Minus) ∷ (codes "*", Some Star) ∷ (codes "/", None) ∷ (codes "%", None)
-    ∷ (codes "@", None) ∷ (codes "&", None) ∷ (codes "|", None) ∷ (codes "^", None) ∷ (codes "~", None) ∷ (codes "<", None)
-    ∷ (codes ">", None) ∷ (codes "(", Some Open) ∷ (codes ")", Some Close) ∷ (codes "[", None) ∷ (codes "]", None)
-    ∷ (codes "{", None) ∷ (codes "}", None) ∷ (codes ",", None) ∷ (codes ":", None) ∷ (codes ".", None) ∷ (codes ";", None)
+    ∷ (codes "@", None) ∷ (codes "&", None) ∷ (codes "|", None) ∷ (codes "^", None) ∷ (codes "~", None) ∷ (codes "<", Some Less)
+    ∷ (codes ">", Some Greater) ∷ (codes "(", Some Open) ∷ (codes ")", Some Close) ∷ (codes "[", None) ∷ (codes "]", None)
+    ∷ (codes "{", None) ∷ (codes "}", None) ∷ (codes ",", None) ∷ (codes ":", Some Colon) ∷ (codes ".", None) ∷ (codes ";", None)
     ∷ (codes "=", Some Equals) ∷ []
 
--- the mark of the first of some operators that a text begins with, which is its longest
-abbrev pub mark_at : List (Text × Option Mark) → Text → Option Mark
+-- the mark of the first of some operators that a text begins with, which is its longest, and its length
+abbrev pub mark_at : List (Text × Option Mark) → Text → Option (Mark × ℕ)
 mark_at [] z = None
-mark_at (row ∷ rows) z = if begins_with row.0 z then row.1 else mark_at rows z
+mark_at (row ∷ rows) z = if begins_with row.0 z then option_map (λ mark. (mark, length row.0)) row.1 else mark_at rows z
 
 -- The token at the front is the longest run of letters, digits and `_`, or the longest operator. A run that begins with a
 -- digit must be a number as a whole, so none stands where a letter or `_` comes right behind a number.
@@ -133,7 +144,7 @@ token [] = None
 token (b ∷ z) =
     let run = take_while is_name_part (b ∷ z) in
     if is_name_part b then (if is_ascii_digit b then number run else name run)
-    else option_map (λ mark. (TMark mark, 1)) (mark_at operators (b ∷ z))
+    else option_map (λ m. (TMark m.0, m.1)) (mark_at operators (b ∷ z))
 
 -- ---- from lines to tokens
 
@@ -150,9 +161,9 @@ begin n c None behind = None
 begin n c (Some t) behind = with_token n c t.0 (behind (t.1 - 1))
 
 -- The tokens of a logical line from line n and column c on, where so many bytes are left of a token that began before,
--- and then those of the lines after it, given the number of the first of these.
-abbrev pub cut : ℕ → ℕ → ℕ → (ℕ → Option (List Token)) → Text → Option (List Token)
-cut n c left after [] = with_token n c TNewline (after (n + 1))
+-- and then those of the lines after it, given the line and the column of this one's end.
+abbrev pub cut : ℕ → ℕ → ℕ → (ℕ → ℕ → Option (List Token)) → Text → Option (List Token)
+cut n c left after [] = with_token n c TNewline (after n c)
 cut n c (suc left) after (b ∷ z) = cut n (c + 1) left after z
 cut n c zero after (b ∷ z) =
     if b == space then cut n (c + 1) 0 after z
@@ -162,15 +173,45 @@ cut n c zero after (b ∷ z) =
 abbrev pub is_blank : Text → Bool
 is_blank = list_all (λ b. b == space)
 
--- The same of a whole logical line. A blank one has no tokens, and an indented one is outside the language
--- ("Indentation").
-abbrev pub line : ℕ → (ℕ → Option (List Token)) → Text → Option (List Token)
-line n after l = if is_blank l then after (n + 1) else (if begins_with (space ∷ []) l then None else cut n 1 0 after l)
+-- ---- indentation ("Indentation"): the widths of the levels that are open, the innermost first; below them is a level of width 0
+
+-- the number of spaces that a line begins with
+abbrev pub width_of : Text → ℕ
+width_of = prefix_len (λ b. b == space)
+
+abbrev pub innermost : List ℕ → ℕ
+innermost [] = 0
+innermost (level ∷ levels) = level
+
+-- Ends the levels that are wider than a line whose first token stands at line n and column c, and goes on with the others.
+-- The line must be as wide as one of these.
+abbrev pub dedented : ℕ → ℕ → ℕ → (List ℕ → Option (List Token)) → List ℕ → Option (List Token)
+dedented n c width go [] = if width == 0 then go [] else None
+dedented n c width go (level ∷ levels) =
+    if nat_lt width level then with_token n c TDedent (dedented n c width go levels)
+    else (if width == level then go (level ∷ levels) else None)
+
+-- the same of any line: a wider one begins a level
+abbrev pub indented : ℕ → ℕ → ℕ → (List ℕ → Option (List Token)) → List ℕ → Option (List Token)
+indented n c width go levels =
+    if nat_lt (innermost levels) width then with_token n c TIndent (go (width ∷ levels)) else dedented n c width go levels
+
+-- at the end of a text, open levels end where its last line with tokens does
+abbrev pub dedents : Place → List ℕ → List Token
+dedents end [] = []
+dedents end (level ∷ levels) = At end TDedent ∷ dedents end levels
+
+-- The tokens of a whole logical line from line n on, with these levels open, and then those of the lines after it, given the
+-- number of the first of these, the levels then open, and the end of the last line with tokens. A blank line has none.
+abbrev pub line : ℕ → List ℕ → Place → (ℕ → List ℕ → Place → Option (List Token)) → Text → Option (List Token)
+line n levels end after l =
+    if is_blank l then after (n + 1) levels end
+    else indented n (1 + width_of l) (width_of l) (λ ls. cut n 1 0 (λ m c. after (m + 1) ls (place m c)) l) levels
 
 -- the tokens of logical lines, the first of which begins in line n of the text
-abbrev pub emit : ℕ → List Text → Option (List Token)
-emit n [] = Some []
-emit n (l ∷ ls) = line n (λ m. emit m ls) l
+abbrev pub emit : ℕ → List ℕ → Place → List Text → Option (List Token)
+emit n levels end [] = Some (dedents end levels)
+emit n levels end (l ∷ ls) = line n levels end (λ m k e. emit m k e ls) l
 
 -- whether a text is empty or ends by a line end: a last line without one is outside the language
 abbrev pub is_ended : Text → Bool
@@ -180,4 +221,4 @@ is_ended (b ∷ (c ∷ z)) = is_ended (c ∷ z)
 
 -- the tokens of a module's text, where it lies in the language
 unfoldable pub tokens_of : Text → Option (List Token)
-tokens_of text = if is_ended text then option_and_then (emit 1) (lines_of 0 text) else None
+tokens_of text = if is_ended text then option_and_then (emit 1 [] (place 1 1)) (lines_of 0 text) else None

@@ -5,7 +5,7 @@ use Rattle.grammars.specs.Grammar.{Sym, Tok, Non, Do, Always, Row, Grammar, Sigh
 use Rattle.grammars.specs.Derivation.{Yields}
 use Rattle.grammars.specs.Sets.{Sets}
 use Rattle.grammars.specs.Run.{Done, Stuck, run}
-use Rattle.py_meaning.specs.Token.{Mark, Equals, Plus, Minus, Star, Open, Close, Kind, TName, TNumber, TPrint, TMark, TNewline, Token, At}
+use Rattle.py_meaning.specs.Token.{Mark, Equals, Plus, Minus, Star, Open, Close, Colon, Less, LessOrEqual, Greater, GreaterOrEqual, Same, Differs, Kind, TName, TNumber, TPrint, TMark, TNewline, TIndent, TDedent, TIf, TElse, TWhile, Token, At}
 use Rattle.py_meaning.specs.Tree.{Negative, Binary, Add, Subtract, Multiply, Expr, EName, ENumber, EUnary, EBinary, Stmt, SAssign, SPrint, Body, none, more}
 use Rattle.py_meaning.specs.Grammar.{IsBody}
 
@@ -38,7 +38,7 @@ pub record Built : Type 0 where
 abbrev pub start : Built
 start = record { tokens = []; exprs = []; body = none }
 
--- the number of each kind
+-- the number of each kind; those above 10 stand in no row yet
 abbrev pub number_of : Kind → ℕ
 number_of (TName name) = 1
 number_of (TNumber value) = 2
@@ -50,6 +50,18 @@ number_of (TMark Star) = 7
 number_of (TMark Open) = 8
 number_of (TMark Close) = 9
 number_of TNewline = 10
+number_of TIndent = 11
+number_of TDedent = 12
+number_of TIf = 13
+number_of TElse = 14
+number_of TWhile = 15
+number_of (TMark Colon) = 16
+number_of (TMark Less) = 17
+number_of (TMark LessOrEqual) = 18
+number_of (TMark Greater) = 19
+number_of (TMark GreaterOrEqual) = 20
+number_of (TMark Same) = 21
+number_of (TMark Differs) = 22
 
 abbrev pub kind_of : Token → ℕ
 kind_of (At place kind) = number_of kind
@@ -176,7 +188,7 @@ rank Term = 1
 rank TermTail = 0
 rank Item = 0
 
--- a token of each kind
+-- a token of each kind that stands in a row
 abbrev pub specimen : ℕ → Token
 specimen n = At (record { «module» = 0; line = 1; column = 1 }) (
     cond (n == 1) (TName []) (cond (n == 2) (TNumber 0) (cond (n == 3) TPrint (cond (n == 4) (TMark Equals)

@@ -16,6 +16,13 @@ pub data Mark : Type 0 where
   Star : Mark
   Open : Mark
   Close : Mark
+  Colon : Mark
+  Less : Mark
+  LessOrEqual : Mark
+  Greater : Mark
+  GreaterOrEqual : Mark
+  Same : Mark
+  Differs : Mark
 
 pub data Kind : Type 0 where
   -- a name that is no keyword, and neither `print` nor `__name__`
@@ -25,6 +32,13 @@ pub data Kind : Type 0 where
   TPrint : Kind
   TMark : (mark : Mark) → Kind
   TNewline : Kind
+  -- a level of indentation begins, or one ends
+  TIndent : Kind
+  TDedent : Kind
+  -- the keywords that have a token yet
+  TIf : Kind
+  TElse : Kind
+  TWhile : Kind
 
 pub data Token : Type 0 where
   At : (place : Place) → (kind : Kind) → Token

@@ -4,6 +4,7 @@ pub mod WantedLemmas
 pub mod TokenSteps
 pub mod TokenWanted
 pub mod WholeLemmas
+pub mod LevelLemmas
 pub mod ReadLemmas
 pub mod Stacks
 pub mod Rows

@@ -1,13 +1,13 @@
 -- What the pieces of a token are, as the code finds them.
-use Rattle.std.proofs.Common.{◌≡◌, ℕ, zero, suc, ◌+◌, ◌-◌, ◌*◌, ◌<◌, ◌≤◌, [], ◌∷◌, length, take, drop, get_or, drop-cons, add-one, Bool, true, false, ◌&&◌, cond, nat_eq, nat_le, Some, refl, sym, ap, ◌∙◌, arith, tests}
-use Rattle.std.specs.Prelude.{slice_index, slice_get}
+use Rattle.std.proofs.Common.{◌≡◌, ℕ, zero, suc, ◌+◌, ◌-◌, ◌*◌, ◌<◌, ◌≤◌, [], ◌∷◌, length, take, drop, get_or, drop-cons, add-one, List, Option, Bool, true, false, ◌&&◌, cond, nat_eq, nat_le, Some, None, refl, sym, ap, ◌∙◌, arith, tests}
+use Rattle.std.specs.Prelude.{slice_index, slice_get, nat_lt}
 use Rattle.std.specs.List.{list_all, prefix_len}
 use Rattle.std.specs.Option.{option_map}
 use Rattle.std.specs.Str.{IsUtf8, IsAscii}
 use Rattle.std.proofs.Math.Numerals.{one-add}
 use Rattle.std.proofs.lemmas.Str.{IsUtf8-from_ascii}
-use Rattle.py_meaning.specs.Token.{TMark}
-use Rattle.py_meaning.specs.Lexer.{Text, is_ended, value_from, largest_number, is_name_part, token, mark_at, operators}
+use Rattle.py_meaning.specs.Token.{Mark, TMark}
+use Rattle.py_meaning.specs.Lexer.{Text, begins_with, is_ended, value_from, largest_number, is_name_part, token, mark_at, operators}
 
 both_true_left : (t u : Bool) → (t && u) ≡ true → t ≡ true
 both_true_left true u h = refl
@@ -58,6 +58,36 @@ pub list_all-take_while : (z : Text) → list_all is_name_part (take (prefix_len
 list_all-take_while [] = refl
 list_all-take_while (b ∷ z) = run_cons b z (is_name_part b) refl (list_all-take_while z)
 
-pub token-mark : (z : Text) → 0 < length z → is_name_part (slice_index z 0) ≡ false → token z ≡ option_map (λ mark. (TMark mark, 1)) (mark_at operators z)
+pub token-mark : (z : Text) → 0 < length z → is_name_part (slice_index z 0) ≡ false → token z ≡ option_map (λ m. (TMark m.0, m.1)) (mark_at operators z)
 token-mark [] some h = absurd (omega arith)
 token-mark (b ∷ z) some h = rw h refl
+
+begins_length : (o z : Text) → begins_with o z ≡ true → length o ≤ length z
+begins_length [] z h = omega arith
+begins_length (a ∷ o) [] h = absurd (cc)
+begins_length (a ∷ o) (b ∷ z) h = let tail : length o ≤ length z = begins_length o z (both_true_right (nat_eq b a) (begins_with o z) h) in omega arith
+
+abbrev IsWithin : Text → Mark × ℕ → Type 0
+IsWithin z m = (1 ≤ m.1) × (m.1 ≤ length z)
+
+row_within : (n : ℕ) (o : Option Mark) (z : Text) (m : Mark × ℕ) → 1 ≤ n → n ≤ length z → option_map (λ mark. (mark, n)) o ≡ Some m → IsWithin z m
+row_within n None z m some within h = absurd (cc)
+row_within n (Some mark) z m some within h =
+    let e : ◌≡◌ {A = Mark × ℕ} (mark, n) m = cc in
+    let k : n ≡ m.1 = ap (λ (p : Mark × ℕ). p.1) e in
+    (omega arith, omega arith)
+
+rows_within : (row : Text × Option Mark) (z : Text) (t : Bool) (x : Option (Mark × ℕ)) (m : Mark × ℕ) → begins_with row.0 z ≡ t → nat_lt 0 (length row.0) ≡ true
+    → (x ≡ Some m → IsWithin z m) → cond t (option_map (λ mark. (mark, length row.0)) row.1) x ≡ Some m → IsWithin z m
+rows_within row z true x m begins some ih h = row_within (length row.0) row.1 z m (grind (arith, tests)) (begins_length row.0 z begins) h
+rows_within row z false x m begins some ih h = ih h
+
+mark_within : (rows : List (Text × Option Mark)) (z : Text) (m : Mark × ℕ) → list_all (λ row. nat_lt 0 (length row.0)) rows ≡ true → mark_at rows z ≡ Some m → IsWithin z m
+mark_within [] z m some h = absurd (cc)
+mark_within (row ∷ rows) z m some h =
+    rows_within row z (begins_with row.0 z) (mark_at rows z) m refl (both_true_left (nat_lt 0 (length row.0)) (list_all (λ row. nat_lt 0 (length row.0)) rows) some)
+    (mark_within rows z m (both_true_right (nat_lt 0 (length row.0)) (list_all (λ row. nat_lt 0 (length row.0)) rows) some)) h
+
+-- an operator lies within its text
+pub operator_within : (z : Text) (m : Mark × ℕ) → mark_at operators z ≡ Some m → (1 ≤ m.1) × (m.1 ≤ length z)
+operator_within z m h = mark_within operators z m refl h

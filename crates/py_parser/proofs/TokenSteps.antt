@@ -5,11 +5,11 @@ use Rattle.std.proofs.lemmas.List.Sums.{take_while-cons}
 use Rattle.std.specs.Char.{is_ascii_digit}
 use Rattle.std.specs.List.{list_all, take_while}
 use Rattle.std.specs.Option.{option_map, option_and_then}
-use Rattle.py_meaning.specs.Token.{Mark, Kind, TMark, Token}
-use Rattle.py_meaning.specs.Lexer.{Text, put, depth_after, is_end, lines_of, begins_with, is_name_part, name, number, mark_at, operators, token, with_token, begin, cut, emit}
+use Rattle.py_meaning.specs.Token.{Place, Mark, Kind, TMark, Token}
+use Rattle.py_meaning.specs.Lexer.{Text, put, depth_after, is_end, lines_of, place, begins_with, is_name_part, name, number, mark_at, operators, token, with_token, begin, cut, emit}
 use Rattle.py_parser.specs.declared.lexer.Progress.{Progress}
-use Rattle.py_parser.specs.declared.lexer.Progress.TheVariants.{Fresh, Indented, Begun}
-use Rattle.py_parser.specs.Wanted.{depth_of, line_from, lines_from, wanted}
+use Rattle.py_parser.specs.declared.lexer.Progress.TheVariants.{Begun}
+use Rattle.py_parser.specs.Wanted.{Behind, line_from, lines_from, wanted}
 
 -- ---- a token stands within its line
 
@@ -44,8 +44,8 @@ mark_at-line (row ∷ rows) x r h =
 
 token-line : (b : ℕ) (v r : Text) → token (b ∷ (v ++ 10 ∷ r)) ≡ token (b ∷ v)
 token-line b v r =
-    ap (λ run. cond (is_name_part b) (cond (is_ascii_digit b) (number run) (name run)) (option_map (λ mark. (TMark mark, 1)) (mark_at operators (b ∷ (v ++ 10 ∷ r))))) (run-line (b ∷ v) r)
-    ∙ ap (λ mark. cond (is_name_part b) (cond (is_ascii_digit b) (number (take_while is_name_part (b ∷ v))) (name (take_while is_name_part (b ∷ v)))) (option_map (λ mark. (TMark mark, 1)) mark)) (mark_at-line operators (b ∷ v) r refl)
+    ap (λ run. cond (is_name_part b) (cond (is_ascii_digit b) (number run) (name run)) (option_map (λ m. (TMark m.0, m.1)) (mark_at operators (b ∷ (v ++ 10 ∷ r))))) (run-line (b ∷ v) r)
+    ∙ ap (λ mark. cond (is_name_part b) (cond (is_ascii_digit b) (number (take_while is_name_part (b ∷ v))) (name (take_while is_name_part (b ∷ v)))) (option_map (λ m. (TMark m.0, m.1)) mark)) (mark_at-line operators (b ∷ v) r refl)
 
 -- ---- the first of some lines, and those behind it
 
@@ -57,9 +57,9 @@ abbrev pub tail_lines : List Text → List Text
 tail_lines [] = []
 tail_lines (l ∷ ls) = ls
 
-pub lines_from-parts : (n c : ℕ) (p : Progress) (ls : List Text) → lines_from n c p ls ≡ line_from n c p (λ m. emit m (tail_lines ls)) (head_line ls)
-lines_from-parts n c p [] = refl
-lines_from-parts n c p (l ∷ ls) = refl
+pub lines_from-parts : (n c : ℕ) (p : Progress) (lv : List ℕ) (e : Place) (ls : List Text) → lines_from n c p lv e ls ≡ line_from n c p lv e (λ m k e. emit m k e (tail_lines ls)) (head_line ls)
+lines_from-parts n c p lv e [] = refl
+lines_from-parts n c p lv e (l ∷ ls) = refl
 
 abbrev pub put_all : Text → List Text → List Text
 put_all [] ls = ls
@@ -126,40 +126,37 @@ token_within b u z d ls h =
 
 -- ---- a token at the front
 
-cut-skip : (u w : Text) (n c : ℕ) (after : ℕ → Option (List Token)) → cut n c (length u) after (u ++ w) ≡ cut n (c + length u) 0 after w
+cut-skip : (u w : Text) (n c : ℕ) (after : ℕ → ℕ → Option (List Token)) → cut n c (length u) after (u ++ w) ≡ cut n (c + length u) 0 after w
 cut-skip [] w n c after = ap (λ k. cut n k 0 after w) (sym (add-zero c))
 cut-skip (b ∷ u) w n c after =
     let e : c + 1 + length u ≡ c + length (b ∷ u) = omega arith in cut-skip u w n (c + 1) after ∙ ap (λ k. cut n k 0 after w) e
 
-abbrev pub is_indented : Progress → Bool
-is_indented Fresh = false
-is_indented Indented = true
-is_indented (Begun d) = false
+pub line_starts : (n c d : ℕ) (lv : List ℕ) (e : Place) (after : Behind) (b : ℕ) (w : Text) → nat_eq b 32 ≡ false → nat_eq b 10 ≡ false
+    → line_from n c (Begun d) lv e after (b ∷ w) ≡ begin n c (token (b ∷ w)) (λ left. cut n (c + 1) left (λ m k. after (m + 1) lv (place m k)) w)
+line_starts n c d lv e after b w h32 h10 = rw (h32, h10) refl
 
-pub line_starts : (n c : ℕ) (p : Progress) (after : ℕ → Option (List Token)) (b : ℕ) (w : Text) → is_indented p ≡ false → nat_eq b 32 ≡ false → nat_eq b 10 ≡ false → line_from n c p after (b ∷ w) ≡ begin n c (token (b ∷ w)) (λ left. cut n (c + 1) left after w)
-line_starts n c Fresh after b w ready h32 h10 = rw (h32, h10) refl
-line_starts n c Indented after b w ready h32 h10 = absurd (cc)
-line_starts n c (Begun d) after b w ready h32 h10 = rw (h32, h10) refl
-
-step_by : (n c : ℕ) (p : Progress) (b : ℕ) (u z : Text) (k : Kind) (e : ℕ) (x : Option (List Text)) → is_indented p ≡ false → nat_eq b 32 ≡ false → nat_eq b 10 ≡ false → lines_of e z ≡ x → token (b ∷ (u ++ z)) ≡ Some (k, suc (length u)) → option_and_then (lines_from n c p) (option_map (put_all (b ∷ u)) x) ≡ with_token n c k (option_and_then (lines_from n (c + suc (length u)) (Begun e)) x)
-step_by n c p b u z k e None ready h32 h10 is t = refl
-step_by n c p b u z k e (Some ls) ready h32 h10 is t =
-    let after : ℕ → Option (List Token) = λ m. emit m (tail_lines ls) in
+step_by : (n c d : ℕ) (lv : List ℕ) (q : Place) (b : ℕ) (u z : Text) (k : Kind) (e : ℕ) (x : Option (List Text)) → nat_eq b 32 ≡ false → nat_eq b 10 ≡ false → lines_of e z ≡ x → token (b ∷ (u ++ z)) ≡ Some (k, suc (length u))
+    → option_and_then (lines_from n c (Begun d) lv q) (option_map (put_all (b ∷ u)) x) ≡ with_token n c k (option_and_then (lines_from n (c + suc (length u)) (Begun e) lv q) x)
+step_by n c d lv q b u z k e None h32 h10 is t = refl
+step_by n c d lv q b u z k e (Some ls) h32 h10 is t =
+    let behind : Behind = λ m k q. emit m k q (tail_lines ls) in
+    let after : ℕ → ℕ → Option (List Token) = λ m k. behind (m + 1) lv (place m k) in
     let w : Text = head_line ls in
     let tails = tail_lines-put_all (b ∷ u) ls in
     let heads = head_line-put_all (b ∷ u) ls in
     let same : token (b ∷ (u ++ w)) ≡ Some (k, suc (length u)) = sym (token_within b u z e ls is) ∙ t in
     let less_one : suc (length u) - 1 ≡ length u = omega arith in
     let ends : c + 1 + length u ≡ c + suc (length u) = omega arith in
-    lines_from-parts n c p (put_all (b ∷ u) ls)
-    ∙ ap (λ ts. line_from n c p (λ m. emit m ts) (head_line (put_all (b ∷ u) ls))) tails
-    ∙ ap (λ y. line_from n c p after y) heads
-    ∙ line_starts n c p after b (u ++ w) ready h32 h10
+    lines_from-parts n c (Begun d) lv q (put_all (b ∷ u) ls)
+    ∙ ap (λ ts. line_from n c (Begun d) lv q (λ m k q. emit m k q ts) (head_line (put_all (b ∷ u) ls))) tails
+    ∙ ap (λ y. line_from n c (Begun d) lv q behind y) heads
+    ∙ line_starts n c d lv q behind b (u ++ w) h32 h10
     ∙ ap (λ o. begin n c o (λ left. cut n (c + 1) left after (u ++ w))) same
     ∙ ap (λ left. with_token n c k (cut n (c + 1) left after (u ++ w))) less_one
     ∙ ap (with_token n c k) (cut-skip u w n (c + 1) after ∙ ap (λ m. cut n m 0 after w) ends)
-    ∙ ap (with_token n c k) (sym (lines_from-parts n (c + suc (length u)) (Begun e) ls))
+    ∙ ap (with_token n c k) (sym (lines_from-parts n (c + suc (length u)) (Begun e) lv q ls))
 
-pub step : (n c : ℕ) (p : Progress) (b : ℕ) (u z : Text) (k : Kind) (e : ℕ) → is_indented p ≡ false → nat_eq b 32 ≡ false → nat_eq b 10 ≡ false → lines_of (depth_of p) (b ∷ (u ++ z)) ≡ option_map (put_all (b ∷ u)) (lines_of e z) → token (b ∷ (u ++ z)) ≡ Some (k, suc (length u)) → wanted n c p (b ∷ (u ++ z)) ≡ with_token n c k (wanted n (c + suc (length u)) (Begun e) z)
+pub step : (n c d : ℕ) (lv : List ℕ) (q : Place) (b : ℕ) (u z : Text) (k : Kind) (e : ℕ) → nat_eq b 32 ≡ false → nat_eq b 10 ≡ false → lines_of d (b ∷ (u ++ z)) ≡ option_map (put_all (b ∷ u)) (lines_of e z) → token (b ∷ (u ++ z)) ≡ Some (k, suc (length u))
+    → wanted n c (Begun d) lv q (b ∷ (u ++ z)) ≡ with_token n c k (wanted n (c + suc (length u)) (Begun e) lv q z)
 unfolding wanted
-step n c p b u z k e ready h32 h10 lines t = ap (option_and_then (lines_from n c p)) lines ∙ step_by n c p b u z k e (lines_of e z) ready h32 h10 refl t
+step n c d lv q b u z k e h32 h10 lines t = ap (option_and_then (lines_from n c (Begun d) lv q)) lines ∙ step_by n c d lv q b u z k e (lines_of e z) h32 h10 refl t

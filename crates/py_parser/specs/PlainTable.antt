@@ -7,7 +7,7 @@ use Rattle.py_parser.specs.declared.token.TokenKind.{TokenKind}
 use Rattle.py_parser.specs.declared.token.TokenKind.TheVariants as token
 use Rattle.py_parser.specs.declared.token.Token.{Token}
 use Rattle.py_parser.specs.declared.table.Kind.{Kind}
-use Rattle.py_parser.specs.declared.table.Kind.TheVariants.{Name, Number, Print, Equals, Plus, Minus, Star, Open, Close, Newline}
+use Rattle.py_parser.specs.declared.table.Kind.TheVariants.{Name, Number, Print, Equals, Plus, Minus, Star, Open, Close, Newline, Indent, Dedent, If, Else, While, Colon, Less, LessOrEqual, Greater, GreaterOrEqual, Same, Differs}
 use Rattle.py_parser.specs.declared.table.Nonterminal.{Nonterminal}
 use Rattle.py_parser.specs.declared.table.Nonterminal.TheVariants.{Statements, Statement, Sum, SumTail, Term, TermTail, Item}
 use Rattle.py_parser.specs.declared.table.Action.{Action}
@@ -26,6 +26,18 @@ number Star = 7
 number Open = 8
 number Close = 9
 number Newline = 10
+number Indent = 11
+number Dedent = 12
+number If = 13
+number Else = 14
+number While = 15
+number Colon = 16
+number Less = 17
+number LessOrEqual = 18
+number Greater = 19
+number GreaterOrEqual = 20
+number Same = 21
+number Differs = 22
 
 abbrev pub kind_of_kind : TokenKind → Kind
 kind_of_kind (token.Name name) = Name
@@ -38,6 +50,18 @@ kind_of_kind (token.Mark mark.Star) = Star
 kind_of_kind (token.Mark mark.Open) = Open
 kind_of_kind (token.Mark mark.Close) = Close
 kind_of_kind token.Newline = Newline
+kind_of_kind token.Indent = Indent
+kind_of_kind token.Dedent = Dedent
+kind_of_kind token.If = If
+kind_of_kind token.Else = Else
+kind_of_kind token.While = While
+kind_of_kind (token.Mark mark.Colon) = Colon
+kind_of_kind (token.Mark mark.Less) = Less
+kind_of_kind (token.Mark mark.LessOrEqual) = LessOrEqual
+kind_of_kind (token.Mark mark.Greater) = Greater
+kind_of_kind (token.Mark mark.GreaterOrEqual) = GreaterOrEqual
+kind_of_kind (token.Mark mark.Same) = Same
+kind_of_kind (token.Mark mark.Differs) = Differs
 
 abbrev pub kind_of_token : Token → Kind
 kind_of_token t = kind_of_kind t.kind

@@ -58,6 +58,11 @@ fn copied(token: &Token) -> Result<Token, AllocError>
         TokenKind::Print => TokenKind::Print,
         TokenKind::Mark(mark) => TokenKind::Mark(*mark),
         TokenKind::Newline => TokenKind::Newline,
+        TokenKind::Indent => TokenKind::Indent,
+        TokenKind::Dedent => TokenKind::Dedent,
+        TokenKind::If => TokenKind::If,
+        TokenKind::Else => TokenKind::Else,
+        TokenKind::While => TokenKind::While,
     };
     Ok(Token {
         place: token.place,

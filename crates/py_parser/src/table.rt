@@ -19,6 +19,18 @@ pub enum Kind {
     Open,
     Close,
     Newline,
+    Indent,
+    Dedent,
+    If,
+    Else,
+    While,
+    Colon,
+    Less,
+    LessOrEqual,
+    Greater,
+    GreaterOrEqual,
+    Same,
+    Differs,
 }
 
 #[derive(Clone, Copy, Debug, PartialEq, Eq)]
@@ -106,6 +118,18 @@ fn number_of(kind: Kind) -> u8
         Kind::Open => 8,
         Kind::Close => 9,
         Kind::Newline => 10,
+        Kind::Indent => 11,
+        Kind::Dedent => 12,
+        Kind::If => 13,
+        Kind::Else => 14,
+        Kind::While => 15,
+        Kind::Colon => 16,
+        Kind::Less => 17,
+        Kind::LessOrEqual => 18,
+        Kind::Greater => 19,
+        Kind::GreaterOrEqual => 20,
+        Kind::Same => 21,
+        Kind::Differs => 22,
     }
 }
 
@@ -130,6 +154,18 @@ pub fn kind_of(token: &Token) -> Kind
         TokenKind::Mark(Mark::Open) => Kind::Open,
         TokenKind::Mark(Mark::Close) => Kind::Close,
         TokenKind::Newline => Kind::Newline,
+        TokenKind::Indent => Kind::Indent,
+        TokenKind::Dedent => Kind::Dedent,
+        TokenKind::If => Kind::If,
+        TokenKind::Else => Kind::Else,
+        TokenKind::While => Kind::While,
+        TokenKind::Mark(Mark::Colon) => Kind::Colon,
+        TokenKind::Mark(Mark::Less) => Kind::Less,
+        TokenKind::Mark(Mark::LessOrEqual) => Kind::LessOrEqual,
+        TokenKind::Mark(Mark::Greater) => Kind::Greater,
+        TokenKind::Mark(Mark::GreaterOrEqual) => Kind::GreaterOrEqual,
+        TokenKind::Mark(Mark::Same) => Kind::Same,
+        TokenKind::Mark(Mark::Differs) => Kind::Differs,
     }
 }
 

@@ -4,7 +4,7 @@ use std::test::Fail;
 
 #[test]
 fn reads_modules(rt: HostRuntime) -> Result<(), Fail> {
-    let cases: [(&str, Option<usize>); 14] = [
+    let cases: [(&str, Option<usize>); 20] = [
         ("", Some(0)),
         ("\n  \n", Some(0)),
         ("x = 1\nprint(x + -2 * x)\n", Some(2)),
@@ -15,6 +15,12 @@ fn reads_modules(rt: HostRuntime) -> Result<(), Fail> {
         ("x -= 1\n", None),
         ("x = 1", None),
         (" x = 1\n", None),
+        ("x = 1\n  x = 2\n", None),
+        ("if x:\n  x = 1\n", None),
+        ("if = 1\n", None),
+        ("x = while\n", None),
+        ("x = 1 < 2\n", None),
+        ("x == 1\n", None),
         ("x = 1 2\n", None),
         ("print(1\n", None),
         ("print = 1\n", None),

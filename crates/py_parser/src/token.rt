@@ -11,6 +11,13 @@ pub enum Mark {
     Star,
     Open,
     Close,
+    Colon,
+    Less,
+    LessOrEqual,
+    Greater,
+    GreaterOrEqual,
+    Same,
+    Differs,
 }
 
 /// What a token is.
@@ -24,6 +31,13 @@ pub enum TokenKind {
     Mark(Mark),
     /// The end of a logical line.
     Newline,
+    /// The beginning of a level of indentation.
+    Indent,
+    /// The end of a level of indentation.
+    Dedent,
+    If,
+    Else,
+    While,
 }
 
 /// A token and where it begins.

@@ -1,6 +1,7 @@
-use Rattle.std.proofs.Common.{[], sym, ap, ◌∙◌, arith}
+use Rattle.std.proofs.Common.{[], reverse, sym, ap, ◌∙◌, arith}
 use Rattle.std.specs.Option.{option_map}
-use Rattle.py_parser.specs.PlainTokens.{plain_kind}
+use Rattle.py_meaning.specs.Lexer.{place}
+use Rattle.py_parser.specs.PlainTokens.{plain_place, plain_kind}
 use Rattle.py_parser.specs.declared.lexer.Progress.TheVariants.{Fresh}
 use Rattle.py_parser.specs.Wanted.{whole, wanted, joined}
 use Rattle.py_parser.proofs.TokenWanted.{wanted-unknown}
@@ -14,7 +15,8 @@ pub loop-rest-init : goal.loop-rest-init
 loop-rest-init c =
     let z = c.args.text.now in
     let new = c.new-lexer.ensures in
-    sym (whole-at c.new-lexer.result [] 1 1 Fresh z new.0 new.1 new.2 new.3) ∙ joined-nil (wanted 1 1 Fresh z) ∙ sym (tokens_of-wanted z (sym c.is_ended.ensures ∙ c.if-not-is_ended.false))
+    sym (whole-at c.new-lexer.result [] [] (place 1 1) 1 1 (Fresh 0) z new.0 new.1 new.2 new.3 new.4 new.5)
+    ∙ joined-nil (wanted 1 1 (Fresh 0) [] (place 1 1) z) ∙ sym (tokens_of-wanted z (sym c.is_ended.ensures ∙ c.if-not-is_ended.false))
 
 pub returns-in-None : goal.returns-in-None
 unfolding whole
@@ -22,4 +24,4 @@ returns-in-None c =
     let s = c.loop-rest.lexer in
     let z = c.loop-rest.rest.now in
     let unknown = sym c.in_ok-token.ensures.value ∙ ap (option_map (λ t. (plain_kind t.0, t.1))) c.in-None.is in
-    sym (sym c.loop-rest.invariant ∙ ap (joined s.tokens.items) (wanted-unknown s.line s.column s.progress z (omega (arith, c.in-len1-up.len_at_least)) c.if-first-eq32.false c.if-first-eq10.false unknown))
+    sym (sym c.loop-rest.invariant ∙ ap (joined s.tokens.items) (wanted-unknown s.line s.column s.progress (reverse s.levels.items) (plain_place s.end) z (omega (arith, c.in-len1-up.len_at_least)) c.if-first-eq32.false c.if-first-eq10.false unknown))
