@@ -22,7 +22,14 @@ fn run(rt: HostRuntime) -> Status {
     let mut folder = RealFolder::new(rt.alloc(), rt);
     let mut input = StdSource::new(rt.stdin());
     let mut out = StdSink::new(rt.stdout());
-    shed(rt.alloc(), words.as_slice(), &mut folder, &mut input, &mut out, &mut err)
+    shed(
+        rt.alloc(),
+        words.as_slice(),
+        &mut folder,
+        &mut input,
+        &mut out,
+        &mut err,
+    )
 }
 
 // The words behind the program's name. Words that are no text say nothing, as no words do.
