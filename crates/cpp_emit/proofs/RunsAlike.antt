@@ -23,7 +23,7 @@ use Rattle.shed_meaning.specs.Layout.{variables}
 use Rattle.cpp_emit.specs.Emit.{emit_expr, printed, emit_body, prints, emit_block, emit}
 use Rattle.cpp_emit.proofs.NamesApart.{same_self, same_globals, other_globals, temporary_apart}
 use Rattle.cpp_emit.proofs.GlobalsBound.{first_true, second_true, binds}
-use Rattle.cpp_emit.proofs.WellTyped.{Knows, emitted_type, knows_more, knows_first, knows_fewer, chosen, globals_known, one_main}
+use Rattle.cpp_emit.proofs.WellTyped.{no_name, Knows, emitted_type, knows_more, knows_first, knows_fewer, chosen, globals_known, one_main}
 use Rattle.cpp_emit.proofs.Evaluation.{one_module, source_at, Agree, evaluates}
 
 -- a moment of the run of the emission
@@ -156,9 +156,6 @@ starts name body input =
 nothing_assigned : (globals : Map Global Value) (cells : Cells) → Agree [] globals cells
 nothing_assigned globals cells x h = cc
 
-none_known : (types : Types) → Knows types (has_name [])
-none_known types x h = cc
-
 -- the block of a body, with its temporary declared or not
 same_block : (main : Module) (C : Program) (body : Body) (printing : Bool) (cells : Cells) (input : List ℕ) → prints body ≡ printing → are_reads_sure [] body ≡ true → Knows (global_types C) (binds body) → (n : ℕ) → (out : List ℕ) × ComesTo (source_machine (one_module main)) n (source_at (Run body ∷ []) [] nothing input []) (Gives out Done) × ComesTo (machine C) n (target_at nothing (if printing then more (Declare Text printed NullPointer) (emit_body body) else emit_body body) nothing cells input []) (Gives out Done)
 same_block main C body true cells input is sure bound n =
@@ -166,14 +163,14 @@ same_block main C body true cells input is sure bound n =
     let hidden : Hides locals_types = λ x. put_other same_identifier nothing printed (global_name 0 x) Text (temporary_apart 0 0 x) in
     let b =
     same_body main C locals_types hidden body [] nothing (put same_identifier nothing printed Null) cells input [] sure
-    (none_known (in_scope locals_types (global_types C)))
+    (no_name (in_scope locals_types (global_types C)))
     (λ x h. ap (λ o. inner_first o (global_types C (global_name 0 x))) (hidden x) ∙ bound x h)
     (λ _. put_same same_identifier nothing printed printed Text (same_self printed))
     (λ x. put_other same_identifier nothing printed (global_name 0 x) Null (temporary_apart 0 0 x))
     (nothing_assigned nothing cells) n in
     (b.0, b.1, leads_step (machine C) _ _ refl n (Gives b.0 Done) b.2)
 same_block main C body false cells input is sure bound n =
-    same_body main C nothing (λ x. refl) body [] nothing nothing cells input [] sure (none_known (global_types C)) bound (λ e. cc) (λ x. refl) (nothing_assigned nothing cells) n
+    same_body main C nothing (λ x. refl) body [] nothing nothing cells input [] sure (no_name (global_types C)) bound (λ e. cc) (λ x. refl) (nothing_assigned nothing cells) n
 
 -- every run of both ends Done, with one output
 pub ends_done : (name : Name) (body : Body) → are_reads_sure [] body ≡ true → (input : List ℕ) (n : ℕ) → (out : List ℕ) × ComesTo (source_machine (one_module (record { name = name; body = body }))) n (source_start (one_module (record { name = name; body = body })) input) (Gives out Done) × ComesTo (machine (emit name body)) n (start (emit name body) input) (Gives out Done)

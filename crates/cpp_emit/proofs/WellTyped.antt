@@ -79,7 +79,7 @@ hides_none globals x =
     ap (λ o. inner_first o (globals (global_name 0 x)))
     (put_other same_identifier nothing printed (global_name 0 x) Text (temporary_apart 0 0 x))
 
-no_name : (types : Types) → Knows types (has_name [])
+pub no_name : (types : Types) → Knows types (has_name [])
 no_name types x h = cc
 
 typed_block : (body : Body) (printing : Bool) (globals : Types) → prints body ≡ printing → are_reads_sure [] body ≡ true → Knows globals (binds body) → IsTypedBlock true globals nothing (if printing then more (Declare Text printed NullPointer) (emit_body body) else emit_body body)

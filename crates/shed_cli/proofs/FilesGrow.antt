@@ -1,14 +1,11 @@
 -- Lists of files that grow at their ends, a file a module.
-use Rattle.std.proofs.Common.{◌≡◌, ℕ, suc, ◌+◌, ◌<◌, List, [], ◌∷◌, ◌++◌, length, drop, get_or, sym, ap, ◌∙◌, add-one, drop-cons, append_assoc}
+use Rattle.std.proofs.Common.{◌≡◌, ℕ, ◌+◌, ◌<◌, List, [], ◌∷◌, ◌++◌, length, drop, get_or, sym, ap, ◌∙◌, append_assoc}
 use Rattle.std.proofs.lemmas.List.{map-append}
 use Rattle.cpp_meaning.specs.Text.{File}
+use Rattle.cpp_emit.proofs.BlocksGrow.{drop_at}
 use Rattle.cpp_ast.specs.declared.tree.CppModule.{CppModule}
 use Rattle.shed_cli.specs.declared.file.File.{File as FileToWrite}
 use Rattle.shed_cli.specs.Plain.{plain_file, plain_files}
-
--- the module that the loop is at, and those after it
-drop_at : {A : Type 0} (items : List A) (i : ℕ) (x : A) → i < length items → x ≡ get_or items i x → drop i items ≡ x ∷ drop (i + 1) items
-drop_at items i x within is = rw (add-one, drop-cons items i x within) (ap (λ y. y ∷ drop (suc i) items) (sym is))
 
 -- where `rest` has a file for each module, in order
 pub files_step : (one : CppModule → File) (rest : List CppModule → List File) → ((m : CppModule) (ms : List CppModule) → rest (m ∷ ms) ≡ one m ∷ rest ms) → (all : List File) (old new : List FileToWrite) (f : FileToWrite) (modules : List CppModule) (i : ℕ) (m : CppModule) → i < length modules → m ≡ get_or modules i m → new ≡ old ++ f ∷ [] → plain_file f ≡ one m → plain_files old ++ rest (drop i modules) ≡ all → plain_files new ++ rest (drop (i + 1) modules) ≡ all
