@@ -7,6 +7,8 @@ use sqlite_items::{Boxed, Items};
 pub enum CppType {
     /// `int32_t`.
     Int32,
+    /// `bool`.
+    Truth,
     /// `shed::str*`.
     Text,
 }
@@ -16,6 +18,8 @@ pub enum CppType {
 pub enum CppZero {
     /// `0`.
     Number,
+    /// `false`.
+    Truth,
     /// `nullptr`.
     Pointer,
 }
@@ -26,6 +30,12 @@ pub enum CppBinary {
     Plus,
     Minus,
     Times,
+    Less,
+    LessOrEqual,
+    Greater,
+    GreaterOrEqual,
+    Equal,
+    NotEqual,
 }
 
 /// An operand, which has no effect (ISO C++, "Expressions").
@@ -61,6 +71,9 @@ pub enum CppStmt {
     Declare(CppType, String, CppZero),
     Assign(String, CppValue),
     Perform(CppValue),
+    If(CppExpr, Items<CppStmt>),
+    IfElse(CppExpr, Items<CppStmt>, Items<CppStmt>),
+    While(CppExpr, Items<CppStmt>),
 }
 
 /// What a header declares.

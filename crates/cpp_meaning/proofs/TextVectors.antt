@@ -85,7 +85,7 @@ greatest = refl
 calls : (value_text (CallRow TextOf []) ≡ codes "shed::text_of()") × (value_text (CallRow TextOf (Named g ∷ Named t ∷ [])) ≡ codes "shed::text_of(g_0_x, t_0)")
 calls = (refl, refl)
 
-statements : (stmt_text (Declare Int32 t ZeroNumber) ≡ codes "int32_t t_0 = 0;\n") × (stmt_text (Declare Text t NullPointer) ≡ codes "shed::str* t_0 = nullptr;\n") × (stmt_text (Perform (Operand (Named g))) ≡ codes "g_0_x;\n")
+statements : (stmt_text 1 (Declare Int32 t ZeroNumber) ≡ codes "int32_t t_0 = 0;\n") × (stmt_text 1 (Declare Text t NullPointer) ≡ codes "shed::str* t_0 = nullptr;\n") × (stmt_text 1 (Perform (Operand (Named g))) ≡ codes "g_0_x;\n")
 statements = (refl, refl, refl)
 
 indented : block_text 2 (more (Assign t (Operand (Named g))) (more (Perform (Operand (Named t))) none)) ≡ codes "    t_0 = g_0_x;\n    t_0;\n"

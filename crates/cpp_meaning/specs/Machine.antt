@@ -1,10 +1,11 @@
 -- The C++ machine. Cells carry no tag: each operation is picked by declared types (ISO C++, "Expressions"; signed
 -- arithmetic wraps, as `-fwrapv` has it). The rows are the support library.
-use Rattle.std.specs.Prelude.{ℕ, ℤ, pos, ◌+ℤ◌, ◌-ℤ◌, ◌*ℤ◌, List, [], ◌∷◌, ◌++◌, Option, Some, None, if◌then◌else◌, codes}
+use Rattle.std.specs.Prelude.{ℕ, ℤ, pos, ◌+ℤ◌, ◌-ℤ◌, ◌*ℤ◌, int_lt, int_le, List, [], ◌∷◌, ◌++◌, Bool, true, false, not, Option, Some, None, if◌then◌else◌, codes}
+use Rattle.std.specs.Ordering.{int_eq}
 use Rattle.runs.specs.Number.{W32, wrapped, decimal_of}
-use Rattle.runs.specs.Run.{Done, Raised, Next, Goes, Ends, Machine}
+use Rattle.runs.specs.Run.{Done, Raised, Next, Goes, Ticks, Ends, Machine}
 use Rattle.runs.specs.FiniteMap.{Map, nothing, put}
-use Rattle.cpp_meaning.specs.Tree.{Identifier, same_identifier, CppType, Int32, Text, Zero, ZeroNumber, NullPointer, Operator, Plus, Minus, Times, Expr, Named, Number, Literal, Operate, Negate, Row, TextOf, Write, Value, Operand, CallRow, Stmt, Declare, Assign, Perform, Block, none, more, Definition, Variable, Body, Main, Program, sources_of}
+use Rattle.cpp_meaning.specs.Tree.{Identifier, same_identifier, CppType, Int32, Truth, Text, Zero, ZeroNumber, FalseTruth, NullPointer, Operator, Plus, Minus, Times, Less, LessOrEqual, Greater, GreaterOrEqual, Equal, NotEqual, Expr, Named, Number, Literal, Operate, Negate, Row, TextOf, Write, Value, Operand, CallRow, Stmt, Declare, Assign, Perform, If, IfElse, While, Block, none, more, Definition, Variable, Body, Main, Program, sources_of}
 use Rattle.cpp_meaning.specs.Typing.{Types, inner_first, in_scope, type_of, types_of, global_types, mains}
 
 -- what a variable holds
@@ -43,16 +44,33 @@ held (Some c) = c
 
 abbrev pub zero_cell : Zero → Cell
 zero_cell ZeroNumber = Word (pos 0)
+zero_cell FalseTruth = Word (pos 0)
 zero_cell NullPointer = Null
 
-abbrev pub arithmetic : Operator → ℤ → ℤ → ℤ
-arithmetic Plus a b = a +ℤ b
-arithmetic Minus a b = a -ℤ b
-arithmetic Times a b = a *ℤ b
+-- a truth value is a word: 1 or 0
+abbrev pub truth_word : Bool → ℤ
+truth_word true = pos 1
+truth_word false = pos 0
+
+abbrev pub is_true : ℤ → Bool
+is_true z = not (int_eq z (pos 0))
+
+-- arithmetic wraps, as `-fwrapv` has it, and a comparison gives a truth value
+abbrev pub operation : Operator → ℤ → ℤ → ℤ
+operation Plus a b = wrapped W32 (a +ℤ b)
+operation Minus a b = wrapped W32 (a -ℤ b)
+operation Times a b = wrapped W32 (a *ℤ b)
+operation Less a b = truth_word (int_lt a b)
+operation LessOrEqual a b = truth_word (int_le a b)
+operation Greater a b = truth_word (int_lt b a)
+operation GreaterOrEqual a b = truth_word (int_le b a)
+operation Equal a b = truth_word (int_eq a b)
+operation NotEqual a b = truth_word (not (int_eq a b))
 
 -- an operator, picked by the type of its operands
 abbrev pub operate : Option CppType → Operator → Cell → Cell → Cell
-operate (Some Int32) o a b = Word (wrapped W32 (arithmetic o (word_of a) (word_of b)))
+operate (Some Int32) o a b = Word (operation o (word_of a) (word_of b))
+operate (Some Truth) o a b = Word (operation o (word_of a) (word_of b))
 operate (Some Text) o a b = Null
 operate None o a b = Null
 
@@ -67,9 +85,15 @@ abbrev pub evaluate_all : Types → Cells → List Expr → List Cell
 evaluate_all types cells [] = []
 evaluate_all types cells (e ∷ es) = evaluate types cells e ∷ evaluate_all types cells es
 
+-- `str` of a truth value
+abbrev pub text_of_truth : Bool → List ℕ
+text_of_truth true = codes "True"
+text_of_truth false = codes "False"
+
 -- the text of a cell of a type
 abbrev pub text_of_cell : CppType → Cell → List ℕ
 text_of_cell Int32 c = decimal_of (word_of c)
+text_of_cell Truth c = text_of_truth (is_true (word_of c))
 text_of_cell Text c = text_or_none (pointed_to c)
 
 pub record Frame : Type 0 where
@@ -99,13 +123,16 @@ types_here P h = in_scope h.frame.types (global_types P)
 abbrev pub cells_here : Here → Cells
 cells_here h x = inner_first (h.frame.cells x) (h.world.globals x)
 
--- goes on with this block in front of what is left
-abbrev pub go : Here → List Block → Next Moment
-go h blocks =
-    Goes (record {
+-- the moment that goes on with these blocks in front of what is left
+abbrev pub resume : Here → List Block → Moment
+resume h blocks =
+    record {
       frames = record { control = blocks ++ h.frame.control; types = h.frame.types; cells = h.frame.cells } ∷ h.below;
       world = h.world;
-    })
+    }
+
+abbrev pub go : Here → List Block → Next Moment
+go h blocks = Goes (resume h blocks)
 
 abbrev pub with_local : Here → Identifier → Cell → Here
 with_local h x c =
@@ -168,13 +195,21 @@ abbrev pub after_writing : Option (List ℕ) → (List ℕ → Next Moment) → 
 after_writing None further = Ends (Raised (codes "AttributeError") (codes "null"))
 after_writing (Some text) further = further text
 
--- what a statement does, where this block comes after it
+-- what is tested
+abbrev pub holds : Program → Here → Expr → Bool
+holds P h e = is_true (word_of (evaluate (types_here P h) (cells_here h) e))
+
+-- What a statement does, where this block comes after it. A `while` that is about to test takes a tick; where the test
+-- holds, its body is run, and then the same statement again.
 abbrev pub act : Program → Stmt → Block → Here → Next Moment
 act P (Declare t x z) rest h = go (with_declared h t x (zero_cell z)) (rest ∷ [])
 act P (Assign x v) rest h =
     after_writing (value_writes (types_here P h) (cells_here h) v)
     (λ text. go (store (h.frame.types x) (with_written h text) x (value_cell (types_here P h) (cells_here h) v)) (rest ∷ []))
 act P (Perform v) rest h = after_writing (value_writes (types_here P h) (cells_here h) v) (λ text. go (with_written h text) (rest ∷ []))
+act P (If e body) rest h = go h ((if holds P h e then body else none) ∷ rest ∷ [])
+act P (IfElse e body other) rest h = go h ((if holds P h e then body else other) ∷ rest ∷ [])
+act P (While e body) rest h = Ticks (resume h (if holds P h e then body ∷ more (While e body) rest ∷ [] else rest ∷ []))
 
 abbrev pub step_block : Program → Block → Here → Next Moment
 step_block P none h = go h []

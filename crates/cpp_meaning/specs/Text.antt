@@ -1,7 +1,7 @@
 -- The one text of a tree: a statement or a member a line, blocks indented by two spaces, one line end at the end.
 use Rattle.std.specs.Prelude.{ℕ, zero, suc, ◌+◌, ◌/◌, ◌%◌, List, [], ◌∷◌, ◌++◌, Bool, ◌==◌, ◌&&◌, ◌||◌, nat_le, not, if◌then◌else◌, codes}
 use Rattle.std.specs.Fmt.{decimal}
-use Rattle.cpp_meaning.specs.Tree.{CppType, Int32, Text, Zero, ZeroNumber, NullPointer, Operator, Plus, Minus, Times, Expr, Named, Number, Literal, Operate, Negate, Row, TextOf, Write, Value, Operand, CallRow, Stmt, Declare, Assign, Perform, Block, none, more, Declaration, Extern, BodyHead, Definition, Variable, Body, Main, Module, Program}
+use Rattle.cpp_meaning.specs.Tree.{CppType, Int32, Truth, Text, Zero, ZeroNumber, FalseTruth, NullPointer, Operator, Plus, Minus, Times, Less, LessOrEqual, Greater, GreaterOrEqual, Equal, NotEqual, Expr, Named, Number, Literal, Operate, Negate, Row, TextOf, Write, Value, Operand, CallRow, Stmt, Declare, Assign, Perform, If, IfElse, While, Block, none, more, Declaration, Extern, BodyHead, Definition, Variable, Body, Main, Module, Program}
 
 -- a file of the folder that is written
 pub record File : Type 0 where
@@ -10,16 +10,24 @@ pub record File : Type 0 where
 
 abbrev pub type_text : CppType → List ℕ
 type_text Int32 = codes "int32_t"
+type_text Truth = codes "bool"
 type_text Text = codes "shed::str*"
 
 abbrev pub zero_text : Zero → List ℕ
 zero_text ZeroNumber = codes "0"
+zero_text FalseTruth = codes "false"
 zero_text NullPointer = codes "nullptr"
 
 abbrev pub operator_text : Operator → List ℕ
 operator_text Plus = codes " + "
 operator_text Minus = codes " - "
 operator_text Times = codes " * "
+operator_text Less = codes " < "
+operator_text LessOrEqual = codes " <= "
+operator_text Greater = codes " > "
+operator_text GreaterOrEqual = codes " >= "
+operator_text Equal = codes " == "
+operator_text NotEqual = codes " != "
 
 abbrev pub row_text : Row → List ℕ
 row_text TextOf = codes "shed::text_of("
@@ -54,18 +62,25 @@ value_text (Operand e) = expr_text e
 value_text (CallRow row []) = row_text row ++ codes ")"
 value_text (CallRow row (e ∷ es)) = row_text row ++ (expr_text e ++ operands_text es)
 
-abbrev pub stmt_text : Stmt → List ℕ
-stmt_text (Declare t x z) = type_text t ++ (codes " " ++ (x ++ (codes " = " ++ (zero_text z ++ codes ";\n"))))
-stmt_text (Assign x v) = x ++ (codes " = " ++ (value_text v ++ codes ";\n"))
-stmt_text (Perform v) = value_text v ++ codes ";\n"
-
 abbrev pub indent : ℕ → List ℕ
 indent zero = []
 indent (suc depth) = codes "  " ++ indent depth
 
-abbrev pub block_text : ℕ → Block → List ℕ
-block_text depth none = []
-block_text depth (more s rest) = indent depth ++ (stmt_text s ++ block_text depth rest)
+-- a statement that begins at this depth
+abbrev mutual
+  pub stmt_text : ℕ → Stmt → List ℕ
+  stmt_text depth (Declare t x z) = type_text t ++ (codes " " ++ (x ++ (codes " = " ++ (zero_text z ++ codes ";\n"))))
+  stmt_text depth (Assign x v) = x ++ (codes " = " ++ (value_text v ++ codes ";\n"))
+  stmt_text depth (Perform v) = value_text v ++ codes ";\n"
+  stmt_text depth (If e body) = codes "if (" ++ (expr_text e ++ (codes ") {\n" ++ (block_text (suc depth) body ++ (indent depth ++ codes "}\n"))))
+  stmt_text depth (IfElse e body other) =
+      codes "if (" ++ (expr_text e ++ (codes ") {\n" ++ (block_text (suc depth) body ++ (indent depth ++ (codes "} else {\n"
+      ++ (block_text (suc depth) other ++ (indent depth ++ codes "}\n")))))))
+  stmt_text depth (While e body) = codes "while (" ++ (expr_text e ++ (codes ") {\n" ++ (block_text (suc depth) body ++ (indent depth ++ codes "}\n"))))
+
+  pub block_text : ℕ → Block → List ℕ
+  block_text depth none = []
+  block_text depth (more s rest) = indent depth ++ (stmt_text depth s ++ block_text depth rest)
 
 abbrev pub declaration_text : Declaration → List ℕ
 declaration_text (Extern t x) = codes "extern " ++ (type_text t ++ (codes " " ++ (x ++ codes ";\n")))

@@ -12,18 +12,27 @@ same_identifier x y = bytes_eq x y
 
 pub data CppType : Type 0 where
   Int32 : CppType
+  -- `bool`
+  Truth : CppType
   -- a pointer to a text, `shed::str*`
   Text : CppType
 
 -- the first value of a variable
 pub data Zero : Type 0 where
   ZeroNumber : Zero
+  FalseTruth : Zero
   NullPointer : Zero
 
 pub data Operator : Type 0 where
   Plus : Operator
   Minus : Operator
   Times : Operator
+  Less : Operator
+  LessOrEqual : Operator
+  Greater : Operator
+  GreaterOrEqual : Operator
+  Equal : Operator
+  NotEqual : Operator
 
 pub data Expr : Type 0 where
   Named : (name : Identifier) → Expr
@@ -41,15 +50,19 @@ pub data Value : Type 0 where
   Operand : (operand : Expr) → Value
   CallRow : (row : Row) → (operands : List Expr) → Value
 
-pub data Stmt : Type 0 where
-  Declare : (type : CppType) → (name : Identifier) → (zero : Zero) → Stmt
-  Assign : (name : Identifier) → (value : Value) → Stmt
-  Perform : (value : Value) → Stmt
+mutual
+  pub data Stmt : Type 0 where
+    Declare : (type : CppType) → (name : Identifier) → (zero : Zero) → Stmt
+    Assign : (name : Identifier) → (value : Value) → Stmt
+    Perform : (value : Value) → Stmt
+    If : (condition : Expr) → (body : Block) → Stmt
+    IfElse : (condition : Expr) → (body : Block) → (otherwise : Block) → Stmt
+    While : (condition : Expr) → (body : Block) → Stmt
 
--- the statements of a body, in order
-pub data Block : Type 0 where
-  none : Block
-  more : (first : Stmt) → (rest : Block) → Block
+  -- the statements of a body or of a block in it, in order
+  pub data Block : Type 0 where
+    none : Block
+    more : (first : Stmt) → (rest : Block) → Block
 
 -- what a header declares
 pub data Declaration : Type 0 where

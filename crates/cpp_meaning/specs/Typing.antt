@@ -4,7 +4,7 @@
 use Rattle.std.specs.Prelude.{◌≡◌, List, [], ◌∷◌, Bool, true, false, Option, Some, None, if◌then◌else◌, nat_le}
 use Rattle.std.specs.List.{list_all}
 use Rattle.runs.specs.FiniteMap.{Map, nothing, put}
-use Rattle.cpp_meaning.specs.Tree.{Identifier, same_identifier, CppType, Int32, Text, Zero, ZeroNumber, NullPointer, Expr, Named, Number, Literal, Operate, Negate, Row, TextOf, Write, Value, Operand, CallRow, Declare, Assign, Perform, Block, none, more, Declaration, Extern, BodyHead, Definition, Variable, Body, Main, Program, headers_of, sources_of}
+use Rattle.cpp_meaning.specs.Tree.{Identifier, same_identifier, CppType, Int32, Truth, Text, Zero, ZeroNumber, FalseTruth, NullPointer, Operator, Plus, Minus, Times, Less, LessOrEqual, Greater, GreaterOrEqual, Equal, NotEqual, Expr, Named, Number, Literal, Operate, Negate, Row, TextOf, Write, Value, Operand, CallRow, Declare, Assign, Perform, If, IfElse, While, Block, none, more, Declaration, Extern, BodyHead, Definition, Variable, Body, Main, Program, headers_of, sources_of}
 
 -- the declared types of variables
 abbrev pub Types : Type 0
@@ -18,13 +18,29 @@ inner_first None outer = outer
 abbrev pub in_scope : Types → Types → Types
 in_scope locals globals x = inner_first (locals x) (globals x)
 
--- arithmetic takes numbers of one type and gives that type
-abbrev pub type_of_sum : Option CppType → Option CppType → Option CppType
-type_of_sum (Some Int32) (Some Int32) = Some Int32
-type_of_sum (Some Int32) (Some Text) = None
-type_of_sum (Some Int32) None = None
-type_of_sum (Some Text) b = None
-type_of_sum None b = None
+-- what an operator gives for two numbers: arithmetic gives a number, and a comparison a truth value
+abbrev pub type_of_result : Operator → CppType
+type_of_result Plus = Int32
+type_of_result Minus = Int32
+type_of_result Times = Int32
+type_of_result Less = Truth
+type_of_result LessOrEqual = Truth
+type_of_result Greater = Truth
+type_of_result GreaterOrEqual = Truth
+type_of_result Equal = Truth
+type_of_result NotEqual = Truth
+
+-- whether an operator takes truth values, of which there are two
+abbrev pub takes_truths : Operator → Bool
+takes_truths Equal = true
+takes_truths NotEqual = true
+takes_truths _ = false
+
+-- operands of an operator have one type
+abbrev pub type_of_operation : Operator → Option CppType → Option CppType → Option CppType
+type_of_operation o (Some Int32) (Some Int32) = Some (type_of_result o)
+type_of_operation o (Some Truth) (Some Truth) = if takes_truths o then Some Truth else None
+type_of_operation o _ _ = None
 
 -- the declared type of an operand, if it has one
 abbrev pub type_of : Types → Expr → Option CppType
@@ -32,8 +48,8 @@ type_of types (Named x) = types x
 type_of types (Number n) = Some Int32
 -- a text has code points 0 to 127
 type_of types (Literal t) = if list_all (λ c. nat_le c 127) t then Some Text else None
-type_of types (Operate o a b) = type_of_sum (type_of types a) (type_of types b)
-type_of types (Negate e) = type_of_sum (type_of types e) (type_of types e)
+type_of types (Operate o a b) = type_of_operation o (type_of types a) (type_of types b)
+type_of types (Negate e) = type_of_operation Minus (type_of types e) (type_of types e)
 
 abbrev pub types_of : Types → List Expr → List (Option CppType)
 types_of types [] = []
@@ -47,6 +63,7 @@ pub data Yield : Type 0 where
 -- what a row of the support library gives for operands of these types
 abbrev pub yield_of_row : Row → List (Option CppType) → Option Yield
 yield_of_row TextOf (Some Int32 ∷ []) = Some (Of Text)
+yield_of_row TextOf (Some Truth ∷ []) = Some (Of Text)
 yield_of_row TextOf (Some Text ∷ []) = Some (Of Text)
 yield_of_row Write (Some Text ∷ []) = Some Void
 yield_of_row _ _ = None
@@ -61,9 +78,11 @@ yield_of types (CallRow row operands) = yield_of_row row (types_of types operand
 
 abbrev pub zero_of : CppType → Zero
 zero_of Int32 = ZeroNumber
+zero_of Truth = FalseTruth
 zero_of Text = NullPointer
 
--- the statements of a body, where declarations may still come and these locals have been declared; declarations stand first
+-- The statements of a body, where declarations may still come and these locals have been declared. Declarations stand
+-- first, so a block in it has none. What is tested is a truth value.
 abbrev pub IsTypedBlock : Bool → Types → Types → Block → Type 0
 IsTypedBlock first globals locals none = Unit {0}
 IsTypedBlock first globals locals (more (Declare t x z) rest) =
@@ -72,6 +91,13 @@ IsTypedBlock first globals locals (more (Assign x v) rest) =
     (t : CppType) × (in_scope locals globals x ≡ Some t) × (yield_of (in_scope locals globals) v ≡ Some (Of t)) × IsTypedBlock false globals locals rest
 IsTypedBlock first globals locals (more (Perform v) rest) =
     (y : Yield) × (yield_of (in_scope locals globals) v ≡ Some y) × IsTypedBlock false globals locals rest
+IsTypedBlock first globals locals (more (If e body) rest) =
+    (type_of (in_scope locals globals) e ≡ Some Truth) × IsTypedBlock false globals locals body × IsTypedBlock false globals locals rest
+IsTypedBlock first globals locals (more (IfElse e body other) rest) =
+    (type_of (in_scope locals globals) e ≡ Some Truth) × IsTypedBlock false globals locals body × IsTypedBlock false globals locals other
+    × IsTypedBlock false globals locals rest
+IsTypedBlock first globals locals (more (While e body) rest) =
+    (type_of (in_scope locals globals) e ≡ Some Truth) × IsTypedBlock false globals locals body × IsTypedBlock false globals locals rest
 
 -- what a name of a program stands for
 pub data Sort : Type 0 where

@@ -3,7 +3,7 @@
 use Rattle.std.specs.Prelude.{◌≡◌, ℕ, List, [], ◌∷◌, ◌++◌}
 use Rattle.py_meaning.specs.Name.{Name}
 use Rattle.py_meaning.specs.Binding.{names_bound}
-use Rattle.cpp_meaning.specs.Tree.{Int32, ZeroNumber, Declare, Assign, Perform, Block, none, more, Declaration, Extern, BodyHead, Definition, Variable, Body as BodyDefinition, Main, Module, Program}
+use Rattle.cpp_meaning.specs.Tree.{Int32, ZeroNumber, Declare, Assign, Perform, If, IfElse, While, Block, none, more, Declaration, Extern, BodyHead, Definition, Variable, Body as BodyDefinition, Main, Module, Program}
 use Rattle.py_meaning.specs.Program.{Program as Source}
 use Rattle.shed_meaning.specs.EmittedName.{global_name, body_name, temporary_name}
 
@@ -22,6 +22,9 @@ HasTemporariesAlone none = Unit {0}
 HasTemporariesAlone (more (Declare t x z) rest) = (n : ℕ) × (x ≡ temporary_name n) × HasTemporariesAlone rest
 HasTemporariesAlone (more (Assign x v) rest) = HasTemporariesAlone rest
 HasTemporariesAlone (more (Perform v) rest) = HasTemporariesAlone rest
+HasTemporariesAlone (more (If e body) rest) = HasTemporariesAlone body × HasTemporariesAlone rest
+HasTemporariesAlone (more (IfElse e body other) rest) = HasTemporariesAlone body × HasTemporariesAlone other × HasTemporariesAlone rest
+HasTemporariesAlone (more (While e body) rest) = HasTemporariesAlone body × HasTemporariesAlone rest
 
 -- the module of a program whose body is this block
 abbrev pub laid_out : Name → List Name → Block → Module
