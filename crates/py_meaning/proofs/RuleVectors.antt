@@ -2,7 +2,7 @@
 use Rattle.std.proofs.Common.{◌≡◌, ℕ, zero, suc, [], ◌∷◌, true, false, refl, codes, lit≤, lit<, not-le_of_lt}
 use Rattle.py_meaning.specs.Name.{Name}
 use Rattle.py_meaning.specs.Token.{Place}
-use Rattle.py_meaning.specs.Tree.{Negative, Add, Expr, EName, ENumber, EUnary, EBinary, Stmt, SAssign, SPrint, none, more}
+use Rattle.py_meaning.specs.Tree.{Negative, Add, LessThan, Expr, EName, ENumber, EUnary, EBinary, Condition, CCompare, Stmt, SAssign, SPrint, SIf, SWhile, Body, none, more}
 use Rattle.py_meaning.specs.Binding.{names_bound}
 use Rattle.py_meaning.specs.Rules.{IsShallowBody, are_reads_sure}
 
@@ -15,17 +15,30 @@ x = codes "x"
 abbrev y : Name
 y = codes "y"
 
+abbrev z : Name
+z = codes "z"
+
 abbrev assign : Name → Expr → Stmt
-assign z e = SAssign here z e
+assign w e = SAssign here w e
 
 abbrev print : Expr → Stmt
 print e = SPrint here here e
 
 abbrev named : Name → Expr
-named z = EName here z
+named w = EName here w
 
 abbrev one : Expr
 one = ENumber here 1
+
+abbrev less : Expr → Expr → Condition
+less a b = CCompare here LessThan a b
+
+-- 1 < 1
+abbrev never : Condition
+never = less one one
+
+abbrev alone : Stmt → Body
+alone s = more s none
 
 -- x = 1, y = x, x = 2
 bound_once : names_bound (more (assign x one) (more (assign y (named x)) (more (assign x one) none))) ≡ x ∷ y ∷ []
@@ -38,6 +51,16 @@ bound_in_order = refl
 -- print(x): a read binds nothing
 read_binds_nothing : names_bound (more (print (named x)) none) ≡ []
 read_binds_nothing = refl
+
+-- if 1 < 1: y = 1, x = y; else: y = 2, z = 3; x = 4
+bound_in_branches :
+    names_bound (more (SIf here never (more (assign y one) (alone (assign x (named y)))) (more (assign y one) (alone (assign z one)))) (alone (assign x one)))
+    ≡ y ∷ x ∷ z ∷ []
+bound_in_branches = refl
+
+-- z = 1; while 1 < 1: (if 1 < 1: x = 1), z = 2; y = 3
+bound_in_loop : names_bound (more (assign z one) (more (SWhile here never (more (SIf here never (alone (assign x one)) none) (alone (assign z one)))) (alone (assign y one)))) ≡ z ∷ x ∷ y ∷ []
+bound_in_loop = refl
 
 -- x = 1, print(x + x)
 read_after : are_reads_sure [] (more (assign x one) (more (print (EBinary here Add (named x) (named x))) none)) ≡ true
@@ -55,17 +78,70 @@ read_before = refl
 read_of_another : are_reads_sure [] (more (assign x one) (more (print (EBinary here Add one (named y))) none)) ≡ false
 read_of_another = refl
 
+-- if 1 < 1: x = 1; print(x): the block may not be run
+read_behind_branch : are_reads_sure [] (more (SIf here never (alone (assign x one)) none) (alone (print (named x)))) ≡ false
+read_behind_branch = refl
+
+-- the same behind a block and its `else`, and behind a loop
+read_behind_both : are_reads_sure [] (more (SIf here never (alone (assign x one)) (alone (assign x one))) (alone (print (named x)))) ≡ false
+read_behind_both = refl
+
+read_behind_loop : are_reads_sure [] (more (SWhile here never (alone (assign x one))) (alone (print (named x)))) ≡ false
+read_behind_loop = refl
+
+-- if 1 < 1: x = 1, print(x): not even in the block itself
+read_in_block : are_reads_sure [] (alone (SIf here never (more (assign x one) (alone (print (named x)))) none)) ≡ false
+read_in_block = refl
+
+read_in_loop : are_reads_sure [] (alone (SWhile here never (more (assign x one) (alone (print (named x)))))) ≡ false
+read_in_loop = refl
+
+-- x = 1; while x < 1: x = x + 1, (if 1 < x: y = x; else: print(x)); print(x)
+abbrev earlier_loop : Stmt
+earlier_loop =
+    SWhile here (less (named x) one)
+    (more (assign x (EBinary here Add (named x) one)) (alone (SIf here (less one (named x)) (alone (assign y (named x))) (alone (print (named x))))))
+
+read_of_earlier : are_reads_sure [] (more (assign x one) (more earlier_loop (alone (print (named x))))) ≡ true
+read_of_earlier = refl
+
+-- either operand of a condition, and what stands behind `else`, is read
+read_in_condition : (are_reads_sure [] (alone (SWhile here (less one (named x)) none)) ≡ false) × (are_reads_sure [] (alone (SIf here (less (named x) one) none none)) ≡ false)
+read_in_condition = (refl, refl)
+
+read_behind_else : are_reads_sure [] (alone (SIf here never (alone (print one)) (alone (print (named x))))) ≡ false
+read_behind_else = refl
+
 -- a number behind so many minus signs
 abbrev negated : ℕ → Expr
 negated zero = one
 negated (suc n) = EUnary here Negative (negated n)
 
 -- in an assignment the number of 99 signs has 100 ancestors, and in a call of `print` that of 98
-deep_enough : IsShallowBody (more (assign x (negated 99)) (more (print (negated 98)) none))
+deep_enough : IsShallowBody 0 (more (assign x (negated 99)) (more (print (negated 98)) none))
 deep_enough = (lit≤ tt, (lit≤ tt, tt))
 
-too_deep : IsShallowBody (more (assign x (negated 100)) none) → ⊥
+too_deep : IsShallowBody 0 (more (assign x (negated 100)) none) → ⊥
 too_deep h = not-le_of_lt (lit< tt) h.0
 
-too_deep_in_print : IsShallowBody (more (print (negated 99)) none) → ⊥
+too_deep_in_print : IsShallowBody 0 (more (print (negated 99)) none) → ⊥
 too_deep_in_print h = not-le_of_lt (lit< tt) h.0
+
+-- an operand of a condition has two ancestors more than its statement, and what stands in a block has one more
+deep_enough_in_branch : IsShallowBody 0 (alone (SIf here (less one (negated 98)) (alone (assign x (negated 98))) (alone (print (negated 97)))))
+deep_enough_in_branch = (((lit≤ tt, lit≤ tt), (lit≤ tt, tt), (lit≤ tt, tt)), tt)
+
+deep_enough_in_loops : IsShallowBody 0 (alone (SWhile here (less (negated 98) one) (alone (SWhile here (less (negated 97) one) (alone (assign x (negated 97)))))))
+deep_enough_in_loops = (((lit≤ tt, lit≤ tt), (((lit≤ tt, lit≤ tt), (lit≤ tt, tt)), tt)), tt)
+
+too_deep_in_condition : IsShallowBody 0 (alone (SIf here (less one (negated 99)) (alone (assign x one)) none)) → ⊥
+too_deep_in_condition h = not-le_of_lt (lit< tt) h.0.0.1
+
+too_deep_in_inner_condition : IsShallowBody 0 (alone (SWhile here never (alone (SWhile here (less (negated 98) one) (alone (assign x one)))))) → ⊥
+too_deep_in_inner_condition h = not-le_of_lt (lit< tt) h.0.1.0.0.0
+
+too_deep_in_block : IsShallowBody 0 (alone (SWhile here never (alone (assign x (negated 99))))) → ⊥
+too_deep_in_block h = not-le_of_lt (lit< tt) h.0.1.0
+
+too_deep_behind_else : IsShallowBody 0 (alone (SIf here never (alone (assign x one)) (alone (assign x (negated 99))))) → ⊥
+too_deep_behind_else h = not-le_of_lt (lit< tt) h.0.2.0

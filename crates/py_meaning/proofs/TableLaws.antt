@@ -7,7 +7,7 @@ use Rattle.grammars.proofs.Complete.{complete, one_value}
 use Rattle.grammars.proofs.Longest.{longest}
 use Rattle.py_meaning.specs.Token.{Token}
 use Rattle.py_meaning.specs.Tree.{Body}
-use Rattle.py_meaning.specs.Grammar.{IsBody}
+use Rattle.py_meaning.specs.Grammar.{IsModule}
 use Rattle.py_meaning.specs.Table.{Built, start, finished, table, sets, goal, TableSpells, OneTree, RunBuildsTree, StuckHasNoTree, TreeIsReached}
 use Rattle.py_meaning.proofs.TableSets.{decided, completable, goal_decided, goal_has_specimens}
 use Rattle.py_meaning.proofs.SpellingDerived.{derived}
@@ -17,8 +17,8 @@ pub table_spells : TableSpells
 table_spells body ts = (
   derived body ts,
   λ y.
-      let s : (b : Body) × (finished body ≡ finished b) × IsBody b ts = spelt_so ts (finished body) y in
-      subst (λ (b : Body). IsBody b ts) (sym (ap (λ (v : Built). v.body) s.1)) s.2,
+      let s : (b : Body) × (finished body ≡ finished b) × IsModule b ts = spelt_so ts (finished body) y in
+      subst (λ (b : Body). IsModule b ts) (sym (ap (λ (v : Built). v.body) s.1)) s.2,
 )
 
 pub one_tree : OneTree
@@ -27,9 +27,9 @@ one_tree one other ts h k =
 
 pub run_builds_tree : RunBuildsTree
 run_builds_tree n ts v h =
-    let s : (b : Body) × (v ≡ finished b) × IsBody b ts = spelt_so ts v (sound table sets n goal start ts v h) in
+    let s : (b : Body) × (v ≡ finished b) × IsModule b ts = spelt_so ts v (sound table sets n goal start ts v h) in
     let same : v.body ≡ s.0 = ap (λ (u : Built). u.body) s.1 in
-    (s.1 ∙ ap finished (sym same), subst (λ (b : Body). IsBody b ts) (sym same) s.2)
+    (s.1 ∙ ap finished (sym same), subst (λ (b : Body). IsModule b ts) (sym same) s.2)
 
 pub stuck_has_no_tree : StuckHasNoTree
 stuck_has_no_tree n ts rest h body k =

@@ -200,7 +200,7 @@ rows Statement =
     ∷ row (the_while ∷ Non Condition ∷ Non Block ∷ Do Loop ∷ []) ∷ []
 rows Block =
     row (
-      mark Colon ∷ Do Drop ∷ newline ∷ Do Drop ∷ indent ∷ Do Drop ∷ Do Begin ∷ Non Statement ∷ Non Statements ∷ dedent ∷ Do Drop ∷ []) ∷ []
+    mark Colon ∷ Do Drop ∷ newline ∷ Do Drop ∷ indent ∷ Do Drop ∷ Do Begin ∷ Non Statement ∷ Non Statements ∷ dedent ∷ Do Drop ∷ []) ∷ []
 -- where there is no `else`, its body has no statement
 rows Else = row (the_else ∷ Do Drop ∷ Non Block ∷ []) ∷ row (Do Begin ∷ []) ∷ []
 rows Condition = row (Non Sum ∷ Non ConditionTail ∷ []) ∷ []

@@ -28,11 +28,11 @@ ends_so : {T : Type 0} (R : Machine T) (n : ℕ) (t : T) (e : Ending) (out : Lis
 ends_so R n t e out step same =
     (1, ap (λ next. decide (R.output t) next n (run_for R 0)) step ∙ ap (λ o. Some (Gives o e)) same)
 
-waits : {T : Type 0} (R : Machine T) (t t' : T) (out : List ℕ) → R.step t ≡ Ticks t' → R.output t ≡ out → ComesTo R 0 t (Gives out GoingOn)
+pub waits : {T : Type 0} (R : Machine T) (t t' : T) (out : List ℕ) → R.step t ≡ Ticks t' → R.output t ≡ out → ComesTo R 0 t (Gives out GoingOn)
 waits R t t' out step same =
     (1, ap (λ next. decide (R.output t) next 0 (run_for R 0)) step ∙ ap (λ o. Some (Gives o GoingOn)) same)
 
-ticks_on : {T : Type 0} (R : Machine T) (n : ℕ) (t t' : T) (r : Result) → R.step t ≡ Ticks t' → ComesTo R n t' r → ComesTo R (suc n) t r
+pub ticks_on : {T : Type 0} (R : Machine T) (n : ℕ) (t t' : T) (r : Result) → R.step t ≡ Ticks t' → ComesTo R n t' r → ComesTo R (suc n) t r
 ticks_on R n t t' r step c =
     (suc c.0, ap (λ next. decide (R.output t) next (suc n) (run_for R c.0)) step ∙ c.1)
 
