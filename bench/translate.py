@@ -1,5 +1,6 @@
 #!/usr/bin/env python3
-"""Times the built program on made modules of 1,000, 10,000 and 50,000 lines with many names, and on 1 MB of source.
+"""Times the built program on made modules of 1,000, 10,000 and 50,000 lines with many names, on modules of 10,000, 20,000
+and 40,000 lines of blocks that stand 20 deep in one another, and on 1 MB of source.
 
 Run at the top of the repository; it is skipped where there is no built program (crates/shed/out/shed). It prints lines a
 second and the growth of the time for each doubling of the size, which is 2 where time is linear."""
@@ -29,6 +30,18 @@ def module(lines):
     return "".join(text)
 
 
+def nested(lines):
+    """Many blocks, 20 deep in one another; the innermost two of each have an `else`."""
+    group = []
+    for level in range(20):
+        group.append(" " * level + f"{'while' if level % 3 == 2 else 'if'} n < {level + 3}:\n")
+    group.append(" " * 20 + "n = n + 1\n")
+    for level in (19, 18):
+        group.append(" " * level + "else:\n")
+        group.append(" " * (level + 1) + "print(n * 2)\n")
+    return "n = 0\n" + "".join(group) * (lines // len(group))
+
+
 def seconds(text):
     """The best of three translations of a module, in a folder of its own."""
     best = math.inf
@@ -43,22 +56,32 @@ def seconds(text):
     return best
 
 
-before = None
-for lines in (1_000, 10_000, 50_000):
-    text = module(lines)
-    taken = seconds(text)
-    count = text.count("\n")
-    growth = ""
-    if before is not None:
-        growth = f", growth a doubling {2 ** (math.log2(taken / before[1]) / math.log2(len(text) / before[0])):.2f}"
-    print(f"{count} lines, {len(text)} bytes: {taken:.3f} s, {count / taken:,.0f} lines a second{growth}")
-    before = (len(text), taken)
+def report(title, texts):
+    """A line for each text, with the growth from one to the next."""
+    before = None
+    for text in texts:
+        taken = seconds(text)
+        count = text.count("\n")
+        growth = ""
+        if before is not None:
+            growth = f", growth a doubling {2 ** (math.log2(taken / before[1]) / math.log2(len(text) / before[0])):.2f}"
+        print(f"{title}: {count} lines, {len(text)} bytes: {taken:.3f} s, {count / taken:,.0f} lines a second{growth}")
+        before = (len(text), taken)
+
+
+report("names", [module(lines) for lines in (1_000, 10_000, 50_000)])
+report("blocks", [nested(lines) for lines in (10_000, 20_000, 40_000)])
 
 whole = module(60_000)
 whole = whole[: whole.rfind("\n", 0, 1_048_576) + 1]
 print(f"1 MB of source ({len(whole)} bytes): {seconds(whole):.3f} s")
 
-for name, text in (("minus signs", "x = " + "-" * 1_048_000 + "1\n"), ("open parentheses", "(" * 1_048_000 + "\n")):
+refused = (
+    ("minus signs", "x = " + "-" * 1_048_000 + "1\n"),
+    ("open parentheses", "(" * 1_048_000 + "\n"),
+    ("blocks in one another", "".join(" " * level + "if 1 < 2:\n" for level in range(1_400)) + " " * 1_400 + "x = 1\n"),
+)
+for name, text in refused:
     with tempfile.TemporaryDirectory() as folder:
         (pathlib.Path(folder) / "main.py").write_text(text)
         begun = time.perf_counter()

@@ -5,3 +5,9 @@ apples = apples + 2147483647
 print(apples)
 print(1 +
   2 * 3)
+while pears > 0:
+  if pears == 4:
+    print(apples)
+  else:
+    print(pears)
+  pears = pears - 3

@@ -3,12 +3,12 @@ use Rattle.std.proofs.Common.{◌≡◌, ℕ, pos, negsuc, List, [], ◌∷◌, 
 use Rattle.std.specs.Int.{int_wrap}
 use Rattle.std.specs.Fmt.{digits}
 use Rattle.runs.specs.FiniteMap.{nothing, put}
-use Rattle.runs.specs.Run.{Done, Raised, Gives, ComesTo}
+use Rattle.runs.specs.Run.{Done, Raised, GoingOn, Gives, ComesTo}
 use Rattle.runs.specs.Moment.{moment_at}
-use Rattle.cpp_meaning.specs.Tree.{Identifier, CppType, Int32, Text, ZeroNumber, NullPointer, Plus, Minus, Times, Expr, Named, Number, Literal, Operate, Negate, TextOf, Operand, CallRow, Declare, Assign, Block, none, more, Extern, BodyHead, Variable, Body, Main, Program}
+use Rattle.cpp_meaning.specs.Tree.{Identifier, CppType, Int32, Truth, Text, ZeroNumber, FalseTruth, NullPointer, Plus, Minus, Times, Less, LessOrEqual, Greater, GreaterOrEqual, Equal, NotEqual, Expr, Named, Number, Literal, Operate, Negate, TextOf, Operand, CallRow, Declare, Assign, If, IfElse, While, Block, none, more, Extern, BodyHead, Variable, Body, Main, Program}
 use Rattle.cpp_meaning.specs.Typing.{Types}
 use Rattle.cpp_meaning.specs.Machine.{Cell, Word, Characters, Null, Cells, Moment, evaluate, text_of_cell, machine, start}
-use Rattle.cpp_meaning.proofs.TreeVectors.{g, t, body, write, print, declare, program, sum, wrapped_sum}
+use Rattle.cpp_meaning.proofs.TreeVectors.{g, t, body, write, print, declare, program, sum, wrapped_sum, at_most, rounds, countdown}
 
 -- whatever is to be read, and with any number of ticks, the program's run writes this and is done
 abbrev Writes : Program → List ℕ → Type 0
@@ -133,3 +133,100 @@ null_text = (refl, λ input n. (20, refl))
 null_write : (input : List ℕ) (n : ℕ) → let P = of_body (more (Declare Text t NullPointer) (more (write (Named t)) none)) in ComesTo (machine P) n (start P input) (Gives [] (Raised (codes "AttributeError") (codes "null")))
 unfolding put
 null_write input n = (20, refl)
+
+-- ---- truth values
+
+-- a truth value is the word 1 or 0
+comparisons_hold : (value (Operate Less (Number 1) (Number 2)) ≡ Word (pos 1)) × (value (Operate LessOrEqual (Number 2) (Number 2)) ≡ Word (pos 1)) × (value (Operate Greater (Number 2) (Number 1)) ≡ Word (pos 1)) × (value (Operate GreaterOrEqual (Number 2) (Number 2)) ≡ Word (pos 1)) × (value (Operate Equal (Number 2) (Number 2)) ≡ Word (pos 1)) × (value (Operate NotEqual (Number 1) (Number 2)) ≡ Word (pos 1))
+unfolding int_wrap
+comparisons_hold = (refl, refl, refl, refl, refl, refl)
+
+comparisons_fail : (value (Operate Less (Number 2) (Number 2)) ≡ Word (pos 0)) × (value (Operate LessOrEqual (Number 2) (Number 1)) ≡ Word (pos 0)) × (value (Operate Greater (Number 2) (Number 2)) ≡ Word (pos 0)) × (value (Operate GreaterOrEqual (Number 1) (Number 2)) ≡ Word (pos 0)) × (value (Operate Equal (Number 1) (Number 2)) ≡ Word (pos 0)) × (value (Operate NotEqual (Number 2) (Number 2)) ≡ Word (pos 0))
+unfolding int_wrap
+comparisons_fail = (refl, refl, refl, refl, refl, refl)
+
+-- the order is that of signed numbers
+negative_less : value (Operate Less (Negate (Number 1)) (Number 0)) ≡ Word (pos 1)
+unfolding int_wrap
+negative_less = refl
+
+-- of two true operands
+truths_equal : (value (Operate Equal (at_most 1 2) (at_most 3 4)) ≡ Word (pos 1)) × (value (Operate NotEqual (at_most 1 2) (at_most 3 4)) ≡ Word (pos 0))
+unfolding int_wrap
+truths_equal = (refl, refl)
+
+texts_of_truths : (text_of_cell Truth (Word (pos 1)) ≡ codes "True") × (text_of_cell Truth (Word (pos 0)) ≡ codes "False")
+texts_of_truths = (refl, refl)
+
+-- bool g_0_x = false; .. g_0_x = (1 <= 2); print it
+truth_printed : Writes (of_body (more (Declare Truth g FalseTruth) (more declare (more (Assign g (Operand (at_most 1 2))) (print (Named g)))))) (codes "True\n")
+unfolding put int_wrap
+truth_printed input n = (30, refl)
+
+-- ---- branches, which take no tick: these runs are done with any number of them
+
+-- what comes behind is run too
+if_true : Writes (of_body (more (If (at_most 1 2) (more (write (Literal (codes "a"))) none)) (more (write (Literal (codes "b"))) none))) (codes "ab")
+unfolding int_wrap
+if_true input n = (20, refl)
+
+if_false : Writes (of_body (more (If (at_most 2 1) (more (write (Literal (codes "a"))) none)) (more (write (Literal (codes "b"))) none))) (codes "b")
+unfolding int_wrap
+if_false input n = (20, refl)
+
+if_else_true : Writes (of_body (more (IfElse (at_most 1 2) (more (write (Literal (codes "a"))) none) (more (write (Literal (codes "b"))) none)) (more (write (Literal (codes "c"))) none))) (codes "ac")
+unfolding int_wrap
+if_else_true input n = (20, refl)
+
+if_else_false : Writes (of_body (more (IfElse (at_most 2 1) (more (write (Literal (codes "a"))) none) (more (write (Literal (codes "b"))) none)) (more (write (Literal (codes "c"))) none))) (codes "bc")
+unfolding int_wrap
+if_else_false input n = (20, refl)
+
+-- ---- loops: a tick is due each time a `while` is about to test
+
+abbrev GoesOn : Program → ℕ → List ℕ → Type 0
+GoesOn P n out = (input : List ℕ) → ComesTo (machine P) n (start P input) (Gives out GoingOn)
+
+-- with no tick nothing is tested yet, and with n there were n rounds
+no_round : GoesOn rounds 0 []
+unfolding put int_wrap digits
+no_round input = (60, refl)
+
+one_round : GoesOn rounds 1 (codes "7\n")
+unfolding put int_wrap digits
+one_round input = (60, refl)
+
+three_rounds : GoesOn rounds 3 (codes "7\n7\n7\n")
+unfolding put int_wrap digits
+three_rounds input = (60, refl)
+
+-- a test that fails takes a tick too
+not_entered : GoesOn (of_body (more (While (at_most 2 1) none) none)) 0 [] × ((input : List ℕ) → let P = of_body (more (While (at_most 2 1) none) none) in ComesTo (machine P) 1 (start P input) (Gives [] Done))
+unfolding int_wrap
+not_entered = (λ input. (20, refl), λ input. (20, refl))
+
+-- three rounds and the test that ends them
+countdown_is_done : (input : List ℕ) → ComesTo (machine countdown) 4 (start countdown input) (Gives [] Done)
+unfolding put int_wrap
+countdown_is_done input = (60, refl)
+
+countdown_goes_on : GoesOn countdown 3 []
+unfolding put int_wrap
+countdown_goes_on input = (60, refl)
+
+-- g_0_x = 1; while ((g_0_x > 0)) { g_0_x = (g_0_x - 1); while ((2 <= 1)) {} if ((1 <= 2)) { write("a"_t); } }: a loop
+-- takes its ticks within another one too, two of the outer one and one of the inner one
+abbrev within_loop : Program
+within_loop =
+    program (Extern Int32 g ∷ BodyHead body ∷ [])
+    (Variable Int32 g ZeroNumber
+    ∷ Body body (more (Assign g (Operand (Number 1))) (more (While (Operate Greater (Named g) (Number 0)) (more (Assign g (Operand (Operate Minus (Named g) (Number 1)))) (more (While (at_most 2 1) none) (more (If (at_most 1 2) (more (write (Literal (codes "a"))) none)) none)))) none))
+    ∷ Main body ∷ [])
+
+within_loop_goes_on : GoesOn within_loop 1 [] × GoesOn within_loop 2 (codes "a")
+unfolding put int_wrap
+within_loop_goes_on = (λ input. (60, refl), λ input. (60, refl))
+
+within_loop_is_done : (input : List ℕ) → ComesTo (machine within_loop) 3 (start within_loop input) (Gives (codes "a") Done)
+unfolding put int_wrap
+within_loop_is_done input = (60, refl)

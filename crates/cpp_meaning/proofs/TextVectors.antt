@@ -1,9 +1,9 @@
 -- The bytes of trees, as they are to stand in the files.
 use Rattle.std.proofs.Common.{◌≡◌, [], ◌∷◌, ◌++◌, refl, codes}
 use Rattle.std.specs.Fmt.{digits}
-use Rattle.cpp_meaning.specs.Tree.{Int32, Text, ZeroNumber, NullPointer, Plus, Minus, Times, Named, Number, Literal, Operate, Negate, TextOf, Operand, CallRow, Declare, Assign, Perform, none, more, Body}
+use Rattle.cpp_meaning.specs.Tree.{Int32, Truth, Text, ZeroNumber, FalseTruth, NullPointer, Plus, Minus, Times, Less, LessOrEqual, Greater, GreaterOrEqual, Equal, NotEqual, Named, Number, Literal, Operate, Negate, TextOf, Operand, CallRow, Declare, Assign, Perform, If, IfElse, While, none, more, Body}
 use Rattle.cpp_meaning.specs.Text.{File, character_text, expr_text, value_text, stmt_text, block_text, definition_text, files_of}
-use Rattle.cpp_meaning.proofs.TreeVectors.{g, t, sum}
+use Rattle.cpp_meaning.proofs.TreeVectors.{g, t, sum, write, at_most}
 
 -- ---- the files of `x = 1`, `print(x + 2)`
 
@@ -93,3 +93,36 @@ indented = refl
 
 empty_body : definition_text (Body (codes "body_main") none) ≡ codes "void body_main() {\n}\n"
 empty_body = refl
+
+-- ---- truth values, comparisons and blocks
+
+truth_declared : stmt_text 1 (Declare Truth t FalseTruth) ≡ codes "bool t_0 = false;\n"
+truth_declared = refl
+
+comparisons : (expr_text (Operate Less (Named g) (Named t)) ≡ codes "(g_0_x < t_0)") × (expr_text (Operate LessOrEqual (Named g) (Named t)) ≡ codes "(g_0_x <= t_0)") × (expr_text (Operate Greater (Named g) (Named t)) ≡ codes "(g_0_x > t_0)") × (expr_text (Operate GreaterOrEqual (Named g) (Named t)) ≡ codes "(g_0_x >= t_0)") × (expr_text (Operate Equal (Named g) (Named t)) ≡ codes "(g_0_x == t_0)") × (expr_text (Operate NotEqual (Named g) (Named t)) ≡ codes "(g_0_x != t_0)")
+comparisons = (refl, refl, refl, refl, refl, refl)
+
+-- a comparison has brackets of its own, also among an `if`'s
+if_alone : block_text 1 (more (If (at_most 1 2) (more (write (Named t)) none)) none) ≡ codes "  if ((1 <= 2)) {\n    shed::write(t_0);\n  }\n"
+unfolding digits
+if_alone = refl
+
+if_else : block_text 1 (more (IfElse (at_most 1 2) (more (write (Named t)) none) (more (Assign g (Operand (Number 0))) none)) none) ≡ codes "  if ((1 <= 2)) {\n    shed::write(t_0);\n  } else {\n    g_0_x = 0;\n  }\n"
+unfolding digits
+if_else = refl
+
+while_loop : block_text 1 (more (While (at_most 1 2) (more (write (Named t)) none)) none) ≡ codes "  while ((1 <= 2)) {\n    shed::write(t_0);\n  }\n"
+unfolding digits
+while_loop = refl
+
+-- two deep, and what stands behind the inner block and behind the outer one
+nested :
+    block_text 1
+    (more (While (Operate Less (Named g) (Named t)) (more (IfElse (Operate Equal (Named g) (Named g)) (more (write (Named t)) none) (more (write (Named g)) none)) (more (write (Named t)) none))) (more (write (Named g)) none))
+    ≡ codes "  while ((g_0_x < t_0)) {\n    if ((g_0_x == g_0_x)) {\n      shed::write(t_0);\n    } else {\n      shed::write(g_0_x);\n    }\n"
+    ++ codes "    shed::write(t_0);\n  }\n  shed::write(g_0_x);\n"
+nested = refl
+
+-- an empty block has brackets
+empty_block : stmt_text 0 (IfElse (Named t) none none) ≡ codes "if (t_0) {\n} else {\n}\n"
+empty_block = refl

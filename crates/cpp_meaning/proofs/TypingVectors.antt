@@ -1,9 +1,9 @@
 -- Trees that are well typed, and trees that C++ refuses.
 use Rattle.std.proofs.Common.{◌≡◌, [], ◌∷◌, true, Some, None, refl, codes}
 use Rattle.runs.specs.FiniteMap.{nothing, put}
-use Rattle.cpp_meaning.specs.Tree.{Int32, Text, ZeroNumber, NullPointer, Plus, Named, Number, Literal, Operate, Negate, TextOf, Write, Operand, CallRow, Declare, Assign, Block, none, more, Extern, BodyHead, Variable, Body, Main}
+use Rattle.cpp_meaning.specs.Tree.{Int32, Truth, Text, ZeroNumber, FalseTruth, NullPointer, Plus, Less, LessOrEqual, Greater, GreaterOrEqual, Equal, NotEqual, Named, Number, Literal, Operate, Negate, TextOf, Write, Operand, CallRow, Declare, Assign, If, IfElse, While, Block, none, more, Extern, BodyHead, Variable, Body, Main}
 use Rattle.cpp_meaning.specs.Typing.{Void, Of, type_of, yield_of, IsTypedBlock, AreDeclaredOnce, AreDefinedOnce, AreTyped, IsTyped, global_types}
-use Rattle.cpp_meaning.proofs.TreeVectors.{g, t, body, write, declare, program, sum, wrapped_sum}
+use Rattle.cpp_meaning.proofs.TreeVectors.{g, t, body, write, declare, program, sum, wrapped_sum, at_most, rounds, countdown}
 
 -- ---- whole programs
 
@@ -28,6 +28,33 @@ wrapped_sum_typed =
       defined_once = (refl, tt);
       paired = λ x. refl;
       typed = ((refl, refl, refl, (Text, refl, refl, (Void, refl, (Void, refl, tt)))), tt);
+      main = body;
+      one_main = refl;
+      main_body = refl;
+    }
+
+-- a loop, and in it an assignment and three statements of a print
+pub rounds_typed : IsTyped rounds
+unfolding put
+rounds_typed =
+    record {
+      declared_once = (refl, tt);
+      defined_once = (refl, tt);
+      paired = λ x. refl;
+      typed = ((refl, refl, refl, (refl, (Text, refl, refl, (Void, refl, (Void, refl, tt))), tt)), tt);
+      main = body;
+      one_main = refl;
+      main_body = refl;
+    }
+
+countdown_typed : IsTyped countdown
+unfolding put
+countdown_typed =
+    record {
+      declared_once = (refl, (refl, tt));
+      defined_once = (refl, (refl, tt));
+      paired = λ x. refl;
+      typed = (refl, ((Int32, refl, refl, (refl, (Int32, refl, refl, tt), tt)), tt));
       main = body;
       one_main = refl;
       main_body = refl;
@@ -107,6 +134,46 @@ nothing_to_text : Refused (more declare (more (Assign t (CallRow Write (Literal 
 unfolding put
 nothing_to_text h = cc (h.3.2)
 
+-- ---- what is tested, and blocks
+
+-- if ((1 <= 2)) { shed::write("a"_t); } else { shed::write("b"_t); }
+tested_truth : IsTypedBlock true nothing nothing (more (IfElse (at_most 1 2) (more (write (Literal (codes "a"))) none) (more (write (Literal (codes "b"))) none)) none)
+tested_truth = (refl, (Void, refl, tt), (Void, refl, tt), tt)
+
+-- if (1) {}, and the same of `else` and `while`: nothing converts
+number_for_truth : Refused (more (If (Number 1) none) none) × Refused (more (IfElse (Number 1) none none) none) × Refused (more (While (Number 1) none) none)
+number_for_truth = (λ h. cc (h.0), λ h. cc (h.0), λ h. cc (h.0))
+
+-- if (""_t) {}: nor is a text a truth value
+text_for_truth : Refused (more (If (Literal []) none) none)
+text_for_truth h = cc (h.0)
+
+-- if ((1 <= 2)) { shed::str* t_0 = nullptr; }, and the same of `else` and `while`
+declared_within : Refused (more (If (at_most 1 2) (more declare none)) none) × Refused (more (IfElse (at_most 1 2) none (more declare none)) none) × Refused (more (While (at_most 1 2) (more declare none)) none)
+declared_within = (λ h. cc (h.1.0), λ h. cc (h.2.0), λ h. cc (h.1.0))
+
+-- if ((1 <= 2)) {} shed::str* t_0 = nullptr;
+declared_behind : Refused (more (If (at_most 1 2) none) (more declare none))
+declared_behind h = cc (h.2.0)
+
+-- if ((1 <= 2)) { t_0 = 1; }: a block is typed like what stands around it
+unknown_within : Refused (more (If (at_most 1 2) (more (Assign t (Operand (Number 1))) none)) none)
+unknown_within h = cc (h.1.1)
+
+-- bool t_0 = false; t_0 = (1 <= 2); if (t_0) {}
+stored_truth : IsTypedBlock true nothing nothing (more (Declare Truth t FalseTruth) (more (Assign t (Operand (at_most 1 2))) (more (If (Named t) none) none)))
+unfolding put
+stored_truth = (refl, refl, refl, (Truth, refl, refl, (refl, tt, tt)))
+
+-- bool t_0 = 0;
+truth_of_zero : Refused (more (Declare Truth t ZeroNumber) none)
+truth_of_zero h = cc (h.2)
+
+-- bool t_0 = false; t_0 = 1;
+number_to_truth : Refused (more (Declare Truth t FalseTruth) (more (Assign t (Operand (Number 1))) none))
+unfolding put
+number_to_truth h = cc (h.3.1, h.3.2)
+
 -- ---- operands and calls
 
 write_of_number : yield_of nothing (CallRow Write (Number 1 ∷ [])) ≡ None
@@ -118,7 +185,7 @@ write_of_two = refl
 write_of_text : yield_of nothing (CallRow Write (Literal [] ∷ [])) ≡ Some Void
 write_of_text = refl
 
--- shed::text_of has an overload for numbers and one for texts
+-- shed::text_of has an overload for numbers, and one for texts
 text_of_each : (yield_of nothing (CallRow TextOf (Number 1 ∷ [])) ≡ Some (Of Text)) × (yield_of nothing (CallRow TextOf (Literal [] ∷ [])) ≡ Some (Of Text)) × (yield_of nothing (CallRow TextOf []) ≡ None)
 text_of_each = (refl, refl, refl)
 
@@ -128,3 +195,19 @@ no_sums = (refl, refl, refl, refl)
 
 sums : type_of (global_types sum) (Operate Plus (Negate (Named g)) (Number 2)) ≡ Some Int32
 sums = refl
+
+-- two numbers are compared, which gives a truth value
+comparisons : (type_of nothing (Operate Less (Number 1) (Number 2)) ≡ Some Truth) × (type_of nothing (Operate LessOrEqual (Number 1) (Number 2)) ≡ Some Truth) × (type_of nothing (Operate Greater (Number 1) (Number 2)) ≡ Some Truth) × (type_of nothing (Operate GreaterOrEqual (Number 1) (Number 2)) ≡ Some Truth) × (type_of nothing (Operate Equal (Number 1) (Number 2)) ≡ Some Truth) × (type_of nothing (Operate NotEqual (Number 1) (Number 2)) ≡ Some Truth)
+comparisons = (refl, refl, refl, refl, refl, refl)
+
+-- two truth values are equal or not, but have no order and no sum
+truths_compared : (type_of nothing (Operate Equal (at_most 1 2) (at_most 3 4)) ≡ Some Truth) × (type_of nothing (Operate NotEqual (at_most 1 2) (at_most 3 4)) ≡ Some Truth) × (type_of nothing (Operate Less (at_most 1 2) (at_most 3 4)) ≡ None) × (type_of nothing (Operate Plus (at_most 1 2) (at_most 3 4)) ≡ None) × (type_of nothing (Negate (at_most 1 2)) ≡ None)
+truths_compared = (refl, refl, refl, refl, refl)
+
+-- operands of two types, and two texts, are not compared
+others_compared : (type_of nothing (Operate Equal (Number 1) (at_most 1 2)) ≡ None) × (type_of nothing (Operate Equal (at_most 1 2) (Number 1)) ≡ None) × (type_of nothing (Operate Equal (Literal []) (Literal [])) ≡ None)
+others_compared = (refl, refl, refl)
+
+-- a truth value has a text, and is none
+text_of_truth_value : (yield_of nothing (CallRow TextOf (at_most 1 2 ∷ [])) ≡ Some (Of Text)) × (yield_of nothing (CallRow Write (at_most 1 2 ∷ [])) ≡ None)
+text_of_truth_value = (refl, refl)

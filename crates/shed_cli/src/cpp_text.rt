@@ -1,8 +1,8 @@
 //! The one text of a C++ tree.
 
-ghost use Rattle.std.specs.Prelude.{◌≡◌, [], ◌∷◌, ◌++◌, codes, map, IfOk, OnOk, decimal, string_bytes};
+ghost use Rattle.std.specs.Prelude.{◌≡◌, suc, [], ◌∷◌, ◌++◌, codes, map, IfOk, OnOk, decimal, string_bytes};
 ghost use Rattle.cpp_ast.specs.Plain.{plain_type, plain_zero, plain_binary, plain_expr, plain_row, plain_value, plain_stmt, plain_block, plain_declaration, plain_definition, plain_module, plain};
-ghost use Rattle.cpp_meaning.specs.Text.{type_text, zero_text, operator_text, row_text, is_plain as is_plain_character, character_text, quoted, expr_text, operands_text, value_text, stmt_text, block_text, declaration_text, definition_text, header_text, source_text, includes_text, header_file, source_file, header_files, source_files, files_of};
+ghost use Rattle.cpp_meaning.specs.Text.{type_text, zero_text, operator_text, row_text, is_plain as is_plain_character, character_text, quoted, expr_text, operands_text, value_text, indent, stmt_text, block_text, declaration_text, definition_text, header_text, source_text, includes_text, header_file, source_file, header_files, source_files, files_of};
 ghost use Rattle.cpp_meaning.specs.Tree.{Main};
 ghost use Rattle.shed_cli.specs.Plain.{plain_file, plain_files};
 
@@ -150,7 +150,7 @@ fn push_definition(out: &mut Vec<u8>, item: &CppDefinition) -> Result<(), AllocE
             out.extend_from_slice(b"void ")?;
             out.extend_from_slice(name.as_bytes())?;
             out.extend_from_slice(b"() {\n")?;
-            push_block(out, block.as_slice())?;
+            push_block(out, 1, block.as_slice())?;
             out.extend_from_slice(b"}\n")
         }
         CppDefinition::Main(name) => { push_main(out, name) }
@@ -183,19 +183,23 @@ fn push_variable(
     out.extend_from_slice(b";\n")
 }
 
-// The statements of a body, indented once.
-fn push_block(out: &mut Vec<u8>, block: &[CppStmt]) -> Result<(), AllocError>
-    ensures { OnOk result (out.new.items ≡ out.old.items ++ block_text 1 (plain_block block.now)) }
+// The statements of a body or of a block in it, each at this depth.
+#[cycle(statements)]
+fn push_block(out: &mut Vec<u8>, depth: u32, block: &[CppStmt]) -> Result<(), AllocError>
+    ensures { OnOk result (out.new.items ≡ out.old.items ++ block_text depth (plain_block block.now)) }
 {
     for stmt in block {
-        out.extend_from_slice(b"  ")?;
-        push_stmt(out, stmt)?;
+        push_indent(out, depth)?;
+        push_stmt(out, depth, stmt)?;
     }
     Ok(())
 }
 
-fn push_stmt(out: &mut Vec<u8>, stmt: &CppStmt) -> Result<(), AllocError>
-    ensures { OnOk result (out.new.items ≡ out.old.items ++ stmt_text (plain_stmt stmt.now)) }
+// A statement that begins at this depth.
+#[cycle(statements)]
+#[tactic(auto, using(crate::proofs::CppViews::stmt_views))]
+fn push_stmt(out: &mut Vec<u8>, depth: u32, stmt: &CppStmt) -> Result<(), AllocError>
+    ensures { OnOk result (out.new.items ≡ out.old.items ++ stmt_text depth (plain_stmt stmt.now)) }
 {
     match stmt {
         CppStmt::Declare(ty, name, zero) => push_variable(out, *ty, name.as_str(), *zero),
@@ -209,7 +213,53 @@ fn push_stmt(out: &mut Vec<u8>, stmt: &CppStmt) -> Result<(), AllocError>
             push_value(out, value)?;
             out.extend_from_slice(b";\n")
         }
+        CppStmt::If(condition, body) => {
+            push_head(out, "if (", condition)?;
+            push_inner(out, depth, body.as_slice())?;
+            out.extend_from_slice(b"}\n")
+        }
+        CppStmt::IfElse(condition, body, otherwise) => {
+            push_head(out, "if (", condition)?;
+            push_inner(out, depth, body.as_slice())?;
+            out.extend_from_slice(b"} else {\n")?;
+            push_inner(out, depth, otherwise.as_slice())?;
+            out.extend_from_slice(b"}\n")
+        }
+        CppStmt::While(condition, body) => {
+            push_head(out, "while (", condition)?;
+            push_inner(out, depth, body.as_slice())?;
+            out.extend_from_slice(b"}\n")
+        }
     }
+}
+
+// The block of a statement of this depth, and the indentation before the bracket that closes it.
+#[cycle(statements)]
+fn push_inner(out: &mut Vec<u8>, depth: u32, block: &[CppStmt]) -> Result<(), AllocError>
+    ensures { OnOk result (out.new.items ≡ out.old.items ++ (block_text (suc depth) (plain_block block.now) ++ indent depth)) }
+{
+    let inner = depth.checked_add(1).ok_or(AllocError)?;
+    push_block(out, inner, block)?;
+    push_indent(out, depth)
+}
+
+// What is tested, between the word and the bracket that opens a block.
+fn push_head(out: &mut Vec<u8>, word: &str, condition: &CppExpr) -> Result<(), AllocError>
+    ensures { OnOk result (out.new.items ≡ out.old.items ++ (word.now ++ (expr_text (plain_expr condition.now) ++ codes ") {\n"))) }
+{
+    out.extend_from_slice(word.as_bytes())?;
+    push_expr(out, condition)?;
+    out.extend_from_slice(b") {\n")
+}
+
+// Two spaces a level.
+fn push_indent(out: &mut Vec<u8>, depth: u32) -> Result<(), AllocError>
+    ensures { OnOk result (out.new.items ≡ out.old.items ++ indent depth) }
+{
+    for _level in 0..depth {
+        out.extend_from_slice(b"  ")?;
+    }
+    Ok(())
 }
 
 fn push_value(out: &mut Vec<u8>, value: &CppValue) -> Result<(), AllocError>
@@ -308,6 +358,7 @@ fn type_name(ty: CppType) -> &'static str
 {
     match ty {
         CppType::Int32 => "int32_t",
+        CppType::Truth => "bool",
         CppType::Text => "shed::str*",
     }
 }
@@ -317,6 +368,7 @@ fn zero_value(zero: CppZero) -> &'static str
 {
     match zero {
         CppZero::Number => "0",
+        CppZero::Truth => "false",
         CppZero::Pointer => "nullptr",
     }
 }
@@ -328,6 +380,12 @@ fn operator_sign(operator: CppBinary) -> &'static str
         CppBinary::Plus => " + ",
         CppBinary::Minus => " - ",
         CppBinary::Times => " * ",
+        CppBinary::Less => " < ",
+        CppBinary::LessOrEqual => " <= ",
+        CppBinary::Greater => " > ",
+        CppBinary::GreaterOrEqual => " >= ",
+        CppBinary::Equal => " == ",
+        CppBinary::NotEqual => " != ",
     }
 }
 

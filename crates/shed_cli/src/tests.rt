@@ -81,7 +81,7 @@ fn is_any_written(folder: &MemoryFolder) -> bool {
 }
 
 // A module's name, its text, and one file of its translation.
-const WRITTEN: [(&str, &str, &str, &str); 11] = [
+const WRITTEN: [(&str, &str, &str, &str); 17] = [
     ("main", "", "shed-forward.hpp", FORWARD),
     ("main", "", "main.hpp", HEADER),
     ("main", "", "main.cpp", SOURCE),
@@ -118,6 +118,42 @@ const WRITTEN: [(&str, &str, &str, &str); 11] = [
         "#pragma once\n#include \"shed-forward.hpp\"\nextern int32_t g_0_Z_;\nextern int32_t g_0_Z_Z_x;\nextern int32_t g_0_ZZ;\nextern int32_t g_0_aZZ_;\nextern int32_t g_0_x_;\nvoid body_main();\n",
     ),
     (
+        "main",
+        "x = 1\nif x < 3:\n    print(x)\n",
+        "main.cpp",
+        "#include \"shed-support.hpp\"\n#include \"shed-forward.hpp\"\n#include \"main.hpp\"\nint32_t g_0_x = 0;\nvoid body_main() {\n  shed::str* t_0 = nullptr;\n  g_0_x = 1;\n  if ((g_0_x < 3)) {\n    t_0 = shed::text_of(g_0_x);\n    shed::write(t_0);\n    shed::write(\"\\012\"_t);\n  }\n}\nint main() { return shed::start(&body_main); }\n",
+    ),
+    (
+        "main",
+        "x = 1\nif x >= - 3 + x:\n x = 2\nelse:\n x = 3\ny = x\n",
+        "main.cpp",
+        "#include \"shed-support.hpp\"\n#include \"shed-forward.hpp\"\n#include \"main.hpp\"\nint32_t g_0_x = 0;\nint32_t g_0_y = 0;\nvoid body_main() {\n  g_0_x = 1;\n  if ((g_0_x >= ((-3) + g_0_x))) {\n    g_0_x = 2;\n  } else {\n    g_0_x = 3;\n  }\n  g_0_y = g_0_x;\n}\nint main() { return shed::start(&body_main); }\n",
+    ),
+    (
+        "main",
+        "x = 3\nwhile x != 0:\n\n  x = x - 1\n  \n\n  print(x * 2)\n",
+        "main.cpp",
+        "#include \"shed-support.hpp\"\n#include \"shed-forward.hpp\"\n#include \"main.hpp\"\nint32_t g_0_x = 0;\nvoid body_main() {\n  shed::str* t_0 = nullptr;\n  g_0_x = 3;\n  while ((g_0_x != 0)) {\n    g_0_x = (g_0_x - 1);\n    t_0 = shed::text_of((g_0_x * 2));\n    shed::write(t_0);\n    shed::write(\"\\012\"_t);\n  }\n}\nint main() { return shed::start(&body_main); }\n",
+    ),
+    (
+        "main",
+        "x = 0\nwhile x <= 9:\n   if x == 4:\n    while x > 5:\n          b = 1\n    x = x + 1\n   else:\n        if 1 < 2:\n         a = x\n   x = x - 1\nif x < 1:\n  x = 7\n  if x < 2:\n    x = 8\n",
+        "main.cpp",
+        "#include \"shed-support.hpp\"\n#include \"shed-forward.hpp\"\n#include \"main.hpp\"\nint32_t g_0_x = 0;\nint32_t g_0_b = 0;\nint32_t g_0_a = 0;\nvoid body_main() {\n  g_0_x = 0;\n  while ((g_0_x <= 9)) {\n    if ((g_0_x == 4)) {\n      while ((g_0_x > 5)) {\n        g_0_b = 1;\n      }\n      g_0_x = (g_0_x + 1);\n    } else {\n      if ((1 < 2)) {\n        g_0_a = g_0_x;\n      }\n    }\n    g_0_x = (g_0_x - 1);\n  }\n  if ((g_0_x < 1)) {\n    g_0_x = 7;\n    if ((g_0_x < 2)) {\n      g_0_x = 8;\n    }\n  }\n}\nint main() { return shed::start(&body_main); }\n",
+    ),
+    (
+        "main",
+        "x = 1\nif x > 0:\n  b = 1\nelse:\n  a = 1\n  x = 2\nwhile x == 3:\n  y = 1\n  b = 4\n_ = 5\n",
+        "main.hpp",
+        "#pragma once\n#include \"shed-forward.hpp\"\nextern int32_t g_0_x;\nextern int32_t g_0_b;\nextern int32_t g_0_a;\nextern int32_t g_0_y;\nextern int32_t g_0_Z_;\nvoid body_main();\n",
+    ),
+    (
+        "main",
+        "x = 1\nif x > 0:\n  b = 1\nelse:\n  a = 1\n  x = 2\nwhile x == 3:\n  y = 1\n  b = 4\n_ = 5\n",
+        "main.types",
+        "shed types 1\nrounds 1\ntemplate T0 main ()\nfamily F0\ngroup G0 T0\nglobal main.x int {int}\nglobal main.b int {int}\nglobal main.a int {int}\nglobal main.y int {int}\nglobal main._ int {int}\n",
+    ),
+    (
         "Z",
         "",
         "Z.hpp",
@@ -145,7 +181,7 @@ fn writes_the_files(rt: HostRuntime) -> Result<(), Fail> {
     Ok(())
 }
 
-const UNBUILT_TEXTS: [&str; 19] = [
+const UNBUILT_TEXTS: [&str; 38] = [
     "# comment\n",
     "\tx = 1\n",
     "x =\t1\n",
@@ -165,6 +201,25 @@ const UNBUILT_TEXTS: [&str; 19] = [
     "x = (1)\n",
     "x-=1\n",
     "x = 1**2\n",
+    "x = 1\nelse:\n  x = 2\n",
+    "x = 1\nif x < 2:\n  x = 2\nelif x < 3:\n  x = 3\n",
+    "x = 1\nwhile x < 2:\n  x = 2\nelse:\n  x = 3\n",
+    "x = 1\nif x < 2: x = 2\n",
+    "x = 1\nif x < 2:\nx = 2\n",
+    "x = 1\nwhile x < 2:\n",
+    "x = 1\nif x < 2:\n  x = 2\nelse:\nx = 3\n",
+    "x = 1\nif x < 2:\n  pass\n",
+    "x = 1\n  x = 2\n",
+    "x = 1\nif x < 2:\n  x = 2\n    x = 3\n",
+    "x = 1\nif x < 2:\n    x = 2\n  x = 3\n",
+    "x = 1\nif x < 2:\n\tx = 2\n",
+    "x = 1\nif x:\n  x = 2\n",
+    "x = 1\nif x < 2\n  x = 2\n",
+    "x = 1\nif 0 < x < 3:\n  x = 2\n",
+    "x = 1 < 2\n",
+    "x = 1\nif x < 2:\n  y = 1\nprint(y)\n",
+    "x = 1\nif x < 2:\n  y = 1\n  print(y)\n",
+    "x = 1\nwhile y < 2:\n  y = 1\n",
 ];
 
 // Whether a text is refused, and nothing written.
@@ -206,6 +261,31 @@ fn keeps_the_limits(rt: HostRuntime) -> Result<(), Fail> {
             want == 0,
             "{count} times {piece:?}"
         );
+    }
+    Ok(())
+}
+
+// Blocks in one another, and a statement in the innermost.
+fn nested(rt: &HostRuntime, depth: usize) -> Result<String, Fail> {
+    let alloc = rt.alloc();
+    let mut text = String::new(alloc);
+    for level in 0..depth {
+        text.push_str(" ".repeat(alloc, level)?.as_str())?;
+        text.push_str("if 1 < 2:\n")?;
+    }
+    text.push_str(" ".repeat(alloc, depth)?.as_str())?;
+    text.push_str("x = 1\n")?;
+    Ok(text)
+}
+
+#[test]
+fn keeps_the_limit_of_blocks(rt: HostRuntime) -> Result<(), Fail> {
+    for (depth, want, said) in [(20, 0, ""), (99, 0, ""), (100, 3, UNBUILT)] {
+        let text = nested(&rt, depth)?;
+        let mut folder = folder_with(&rt, "main.py", text.as_str())?;
+        let is_told = ends(&rt, "translate main", &mut folder, want, said)?;
+        assert!(rt; is_told, "{depth} blocks");
+        assert_eq!(rt; is_any_written(&folder), want == 0, "{depth} blocks");
     }
     Ok(())
 }

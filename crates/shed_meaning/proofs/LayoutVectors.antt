@@ -4,10 +4,10 @@ use Rattle.std.specs.Fmt.{digits}
 use Rattle.runs.specs.Number.{W32}
 use Rattle.py_meaning.specs.Name.{Name}
 use Rattle.py_meaning.specs.Token.{Place}
-use Rattle.py_meaning.specs.Tree.{Add, EName, ENumber, EBinary, SAssign, SPrint, Body, none, more}
+use Rattle.py_meaning.specs.Tree.{Add, LessThan, EName, ENumber, EBinary, CCompare, SAssign, SPrint, SWhile, Body, none, more}
 use Rattle.py_meaning.specs.Program.{Program as Source}
-use Rattle.cpp_meaning.specs.Tree.{Int32, ZeroNumber, Declare, Extern, Variable, Module, none as no_statements, more as and_then}
-use Rattle.cpp_meaning.proofs.TreeVectors.{sum_block, sum, wrapped_sum}
+use Rattle.cpp_meaning.specs.Tree.{Int32, ZeroNumber, Stmt as CppStmt, Declare, If, IfElse, While, Extern, Variable, Module, none as no_statements, more as and_then}
+use Rattle.cpp_meaning.proofs.TreeVectors.{sum_block, sum, wrapped_sum, declare, at_most, rounds}
 use Rattle.shed_meaning.specs.Layout.{HasTemporariesAlone, Lays, externs, variables}
 
 abbrev pub at : ℕ → ℕ → Place
@@ -36,6 +36,15 @@ sum_laid_out = record { block = sum_block; temporaries = (0, refl, tt); modules 
 wrapped_sum_laid_out : Lays wrapped_source wrapped_sum
 unfolding digits
 wrapped_sum_laid_out = record { block = _; temporaries = (0, refl, tt); modules = refl }
+
+-- while 1 < 2: print(7)
+abbrev pub rounds_source : Source
+rounds_source =
+    source (more (SWhile (at 1 1) (CCompare (at 1 9) LessThan (ENumber (at 1 7) 1) (ENumber (at 1 11) 2)) (more (SPrint (at 2 5) (at 2 10) (ENumber (at 2 11) 7)) none)) none)
+
+rounds_laid_out : Lays rounds_source rounds
+unfolding digits
+rounds_laid_out = record { block = _; temporaries = (0, refl, (tt, tt)); modules = refl }
 
 -- in the order of the first bindings, and with the names as C++ has them
 declarations : externs 0 (codes "y" ∷ codes "_" ∷ []) ≡ Extern Int32 (codes "g_0_y") ∷ Extern Int32 (codes "g_0_Z_") ∷ []
@@ -67,3 +76,25 @@ no_modules h =
 -- a local that is no temporary
 other_local : HasTemporariesAlone (and_then (Declare Int32 (codes "x") ZeroNumber) no_statements) → ⊥
 other_local h = cc (h.1)
+
+-- shed::str* t_0 = nullptr; within a block: where a declaration may stand, the typing says
+temporary_within : HasTemporariesAlone (and_then (If (at_most 1 2) (and_then declare no_statements)) no_statements)
+unfolding digits
+temporary_within = ((0, refl, tt), tt)
+
+-- int32_t x = 0;
+abbrev local : CppStmt
+local = Declare Int32 (codes "x") ZeroNumber
+
+-- a local that is no temporary within a block: of an `if`, of its `else`, of a `while`, and of a block in a block
+other_locals_within :
+    (HasTemporariesAlone (and_then (If (at_most 1 2) (and_then local no_statements)) no_statements) → ⊥)
+    × (HasTemporariesAlone (and_then (IfElse (at_most 1 2) (and_then local no_statements) no_statements) no_statements) → ⊥)
+    × (HasTemporariesAlone (and_then (IfElse (at_most 1 2) no_statements (and_then local no_statements)) no_statements) → ⊥)
+    × (HasTemporariesAlone (and_then (While (at_most 1 2) (and_then local no_statements)) no_statements) → ⊥)
+    × (HasTemporariesAlone (and_then (While (at_most 1 2) (and_then (If (at_most 1 2) (and_then local no_statements)) no_statements)) no_statements) → ⊥)
+other_locals_within = (λ h. cc (h.0.1), λ h. cc (h.0.1), λ h. cc (h.1.1), λ h. cc (h.0.1), λ h. cc (h.0.0.1))
+
+-- and one behind a block
+other_local_behind : HasTemporariesAlone (and_then (While (at_most 1 2) no_statements) (and_then local no_statements)) → ⊥
+other_local_behind h = cc (h.1.1)

@@ -3,4 +3,5 @@ mod TableVectors
 mod WordVectors
 pub mod LayoutVectors
 pub mod HeadlineVectors
+mod RunVectors
 mod OutcomeVectors

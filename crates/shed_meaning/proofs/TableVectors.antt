@@ -3,7 +3,7 @@ use Rattle.std.proofs.Common.{◌≡◌, ℕ, List, [], ◌∷◌, ◌++◌, ref
 use Rattle.runs.specs.Number.{W32}
 use Rattle.py_meaning.specs.Name.{Name}
 use Rattle.py_meaning.specs.Token.{Place}
-use Rattle.py_meaning.specs.Tree.{EName, ENumber, Stmt, SAssign, SPrint, Body, none, more}
+use Rattle.py_meaning.specs.Tree.{LessThan, EName, ENumber, CCompare, Stmt, SAssign, SPrint, SIf, SWhile, Body, none, more}
 use Rattle.py_meaning.specs.Program.{Program}
 use Rattle.cpp_meaning.specs.Text.{File}
 use Rattle.cpp_meaning.proofs.TreeVectors.{sum}
@@ -40,6 +40,21 @@ empty_table = refl
 -- names stand in the table as they stand in the module
 source_names : (table (program (codes "_m") (more (set_number 1 (codes "__Z") 1) none))).bytes ≡ codes "shed types 1\nrounds 1\ntemplate T0 _m ()\nfamily F0\ngroup G0 T0\n" ++ codes "global _m.__Z int {int}\n"
 source_names = refl
+
+-- y = 1, while y < 3: (if y < 2: b = 1 else: a = 1), y = 3, c = 1: names that a block binds stand where the text has them
+abbrev bound_within : Body
+bound_within =
+    more (set_number 1 (codes "y") 1)
+    (more (SWhile (at 2 1) (CCompare (at 2 9) LessThan (EName (at 2 7) (codes "y")) (ENumber (at 2 11) 3))
+    (more (SIf (at 3 1) (CCompare (at 3 8) LessThan (EName (at 3 6) (codes "y")) (ENumber (at 3 10) 2)) (more (set_number 4 (codes "b") 1) none) (more (set_number 6 (codes "a") 1) none))
+    (more (set_number 7 (codes "y") 3) none)))
+    (more (set_number 8 (codes "c") 1) none))
+
+bound_within_table :
+    (table (program (codes "main") bound_within)).bytes
+    ≡ codes "shed types 1\nrounds 1\ntemplate T0 main ()\nfamily F0\ngroup G0 T0\n"
+    ++ codes "global main.y int {int}\nglobal main.b int {int}\nglobal main.a int {int}\nglobal main.c int {int}\n"
+bound_within_table = refl
 
 main_makefile :
     makefile (program (codes "main") copied)
