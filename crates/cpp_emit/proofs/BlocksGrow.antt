@@ -1,13 +1,13 @@
 -- Blocks that grow at their ends.
 use Rattle.std.proofs.Common.{◌≡◌, ℕ, suc, ◌+◌, ◌<◌, ◌≤◌, List, [], ◌∷◌, ◌++◌, length, drop, get_or, refl, sym, ap, ◌∙◌, add-one, drop-cons}
 use Rattle.std.proofs.Math.ListN.{drop_of_length-le}
-use Rattle.py_meaning.specs.Tree.{Stmt as SourceStmt, SAssign, SPrint, Body, more as and_then}
+use Rattle.py_meaning.specs.Tree.{Stmt as SourceStmt, SAssign, SPrint, SIf, SWhile}
 use Rattle.py_parser.specs.declared.tree.Stmt.{Stmt}
 use Rattle.py_parser.specs.PlainTrees.{plain_stmt as plain_statement, plain_body}
 use Rattle.cpp_meaning.specs.Tree.{Block, none, more}
 use Rattle.cpp_ast.specs.declared.tree.CppStmt.{CppStmt}
 use Rattle.cpp_ast.specs.Plain.{plain_stmt, plain_block}
-use Rattle.cpp_emit.specs.Emit.{emit_body}
+use Rattle.cpp_emit.specs.Emit.{emit_stmt, emit_body}
 use Rattle.cpp_emit.specs.Blocks.{followed_by, statements_of}
 
 pub plain_block-push : (block : List CppStmt) (s : CppStmt) → plain_block (block ++ s ∷ []) ≡ followed_by (plain_block block) (more (plain_stmt s) none)
@@ -24,10 +24,12 @@ followed_by_nothing (more s a) = ap (λ r. more s r) (followed_by_nothing a)
 
 pub ruleset pushes = (plain_block-push, followed_by_assoc)
 
--- the emission of a body is that of its first statement, and then that of the others
-pub emit_body-more : (s : SourceStmt) (body : Body) → emit_body (and_then s body) ≡ followed_by (statements_of s) (emit_body body)
-emit_body-more (SAssign p x e) body = refl
-emit_body-more (SPrint p c e) body = refl
+-- what is emitted for a statement stands in front of what comes behind it
+pub emit_stmt-followed : (s : SourceStmt) (rest : Block) → followed_by (statements_of s) rest ≡ emit_stmt s rest
+emit_stmt-followed (SAssign p x e) rest = refl
+emit_stmt-followed (SPrint p c e) rest = refl
+emit_stmt-followed (SIf p c body other) rest = refl
+emit_stmt-followed (SWhile p c body) rest = refl
 
 -- the statement that the loop is at, and those after it
 pub drop_at : {A : Type 0} (items : List A) (i : ℕ) (x : A) → i < length items → x ≡ get_or items i x → drop i items ≡ x ∷ drop (i + 1) items
@@ -38,7 +40,7 @@ block_step b b' all items i s within is e h =
     let rest = emit_body (plain_body (drop (i + 1) items)) in
     ap (λ c. followed_by c rest) e
     ∙ followed_by_assoc b (statements_of (plain_statement s)) rest
-    ∙ ap (λ c. followed_by b c) (sym (emit_body-more (plain_statement s) (plain_body (drop (i + 1) items))))
+    ∙ ap (λ c. followed_by b c) (emit_stmt-followed (plain_statement s) rest)
     ∙ ap (λ (ss : List Stmt). followed_by b (emit_body (plain_body ss))) (sym (drop_at items i s within is))
     ∙ h
 

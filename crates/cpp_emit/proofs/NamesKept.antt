@@ -1,5 +1,5 @@
 -- The code's set of names is the list of the names bound.
-use Rattle.std.proofs.Common.{◌≡◌, ℕ, List, [], ◌∷◌, ◌++◌, Bool, true, false, refl, sym, ap, ◌∙◌, append_assoc}
+use Rattle.std.proofs.Common.{◌≡◌, ℕ, ◌+◌, ◌<◌, ◌≤◌, length, drop, get_or, List, [], ◌∷◌, ◌++◌, Bool, true, false, refl, sym, ap, ◌∙◌, append_assoc}
 use Rattle.std.specs.Prelude.{◌||◌, if◌then◌else◌, map, string_bytes, String}
 use Rattle.std.specs.Str.{bytes_eq}
 use Rattle.std.specs.String.{string_eq}
@@ -8,10 +8,13 @@ use Rattle.std.proofs.lemmas.List.{append-nil}
 use Rattle.std.proofs.lemmas.Slice.Eq.{bytes_eq-Decides}
 use Rattle.std.proofs.lemmas.Bool.Decides.{same_from_decides}
 use Rattle.py_meaning.specs.Name.{Name, same_name}
-use Rattle.py_meaning.specs.Tree.{SAssign, SPrint, Body, none, more}
 use Rattle.py_meaning.specs.Rules.{has_name}
-use Rattle.py_meaning.specs.Binding.{bound_after}
-use Rattle.cpp_emit.specs.Names.{with_name, with_all_bound}
+use Rattle.py_meaning.specs.Binding.{targets_of, targets, once}
+use Rattle.cpp_emit.specs.Names.{with_name, with_names}
+use Rattle.cpp_emit.proofs.BlocksGrow.{drop_at}
+use Rattle.py_parser.specs.declared.tree.Stmt.{Stmt}
+use Rattle.py_parser.specs.PlainTrees.{plain_stmt, plain_body}
+use Rattle.std.proofs.Math.ListN.{drop_of_length-le}
 
 bytes_eq_sym : (x y : List ℕ) → bytes_eq x y ≡ bytes_eq y x
 bytes_eq_sym x y = same_from_decides (bytes_eq x y) (bytes_eq y x) (bytes_eq-Decides x y) ((λ e. sym ((bytes_eq-Decides y x).0 e)), (λ e. (bytes_eq-Decides y x).1 (sym e)))
@@ -50,27 +53,40 @@ has_last (z ∷ names) x y = ap (λ b. same_name z y || b) (has_last names x y) 
     turn true false c = refl
     turn false b c = refl
 
-bound_same : (body : Body) (s t : List Name) → ((y : Name) → has_name s y ≡ has_name t y) → bound_after s body ≡ bound_after t body
-bound_same none s t same = refl
-bound_same (more (SAssign p x e) body) s t same =
-    ap (λ b. if b then bound_after s body else x ∷ bound_after (x ∷ s) body) (same x)
-    ∙ ap (λ ys. if has_name t x then ys else x ∷ bound_after (x ∷ s) body) (bound_same body s t same)
-    ∙ ap (λ ys. if has_name t x then bound_after t body else x ∷ ys) (bound_same body (x ∷ s) (x ∷ t) (λ y. ap (λ b. same_name x y || b) (same y)))
-bound_same (more (SPrint p c e) body) s t same = bound_same body s t same
+once_same : (names s t : List Name) → ((y : Name) → has_name s y ≡ has_name t y) → once s names ≡ once t names
+once_same [] s t same = refl
+once_same (x ∷ names) s t same =
+    ap (λ b. if b then once s names else x ∷ once (x ∷ s) names) (same x)
+    ∙ ap (λ ys. if has_name t x then ys else x ∷ once (x ∷ s) names) (once_same names s t same)
+    ∙ ap (λ ys. if has_name t x then once t names else x ∷ ys) (once_same names (x ∷ s) (x ∷ t) (λ y. ap (λ b. same_name x y || b) (same y)))
 
-with_bound_after : (x : Name) (there : Bool) (names : List Name) (body : Body) → has_name names x ≡ there → ((now : List Name) → with_all_bound now body ≡ now ++ bound_after now body) → with_all_bound (if there then names else names ++ x ∷ []) body ≡ names ++ (if there then bound_after names body else x ∷ bound_after (x ∷ names) body)
-with_bound_after x true names body is later = later names
-with_bound_after x false names body is later =
+with_names_here : (x : Name) (there : Bool) (names more : List Name) → has_name names x ≡ there → ((now : List Name) → with_names now more ≡ now ++ once now more) → with_names (if there then names else names ++ x ∷ []) more ≡ names ++ (if there then once names more else x ∷ once (x ∷ names) more)
+with_names_here x true names more is later = later names
+with_names_here x false names more is later =
     later (names ++ x ∷ [])
-    ∙ append_assoc names (x ∷ []) (bound_after (names ++ x ∷ []) body)
-    ∙ ap (λ ys. names ++ x ∷ ys) (bound_same body (names ++ x ∷ []) (x ∷ names) (has_last names x))
+    ∙ append_assoc names (x ∷ []) (once (names ++ x ∷ []) more)
+    ∙ ap (λ ys. names ++ x ∷ ys) (once_same more (names ++ x ∷ []) (x ∷ names) (has_last names x))
 
-pub with_all_bound-after : (body : Body) (names : List Name) → with_all_bound names body ≡ names ++ bound_after names body
-with_all_bound-after none names = sym (append-nil names)
-with_all_bound-after (more (SAssign p x e) body) names =
-    with_bound_after x (has_name names x) names body refl (λ now. with_all_bound-after body now)
-with_all_bound-after (more (SPrint p c e) body) names = with_all_bound-after body names
+pub with_names-once : (more names : List Name) → with_names names more ≡ names ++ once names more
+with_names-once [] names = sym (append-nil names)
+with_names-once (x ∷ more) names = with_names_here x (has_name names x) names more refl (λ now. with_names-once more now)
 
--- once all statements are passed
-pub all_passed : (body rest : Body) (names : List Name) → rest ≡ none → with_all_bound names rest ≡ with_all_bound [] body → names ≡ bound_after [] body
-all_passed body rest names e h = sym (ap (λ b. with_all_bound names b) e) ∙ (h ∙ with_all_bound-after body [])
+-- name by name, or list by list
+pub with_names-append : (more others names : List Name) → with_names names (more ++ others) ≡ with_names (with_names names more) others
+with_names-append [] others names = refl
+with_names-append (x ∷ more) others names = with_names-append more others (with_name names x)
+
+pub ruleset lists = (with_names-append)
+
+-- the step of the loop over statements, and its end
+pub names_step : (all : List Name) (old new : List Name) (items : List Stmt) (i : ℕ) (s : Stmt) → i < length items → s ≡ get_or items i s → new ≡ with_names old (targets_of (plain_stmt s)) → with_names old (targets (plain_body (drop i items))) ≡ all → with_names new (targets (plain_body (drop (i + 1) items))) ≡ all
+names_step all old new items i s within is e h =
+    let rest = targets (plain_body (drop (i + 1) items)) in
+    ap (λ ns. with_names ns rest) e
+    ∙ sym (with_names-append (targets_of (plain_stmt s)) rest old)
+    ∙ ap (λ (ss : List Stmt). with_names old (targets (plain_body ss))) (sym (drop_at items i s within is))
+    ∙ h
+
+pub names_end : (all old : List Name) (items : List Stmt) (i : ℕ) → length items ≤ i → with_names old (targets (plain_body (drop i items))) ≡ all → old ≡ all
+names_end all old items i past h =
+    ap (λ (ss : List Stmt). with_names old (targets (plain_body ss))) (sym (drop_of_length-le items past)) ∙ h

@@ -3,7 +3,6 @@ use Rattle.std.specs.Prelude.{ℕ, List, [], ◌∷◌, ◌++◌, Bool, ◌==◌
 use Rattle.std.specs.Char.{encode_utf8}
 use Rattle.std.specs.HashSet.{HashSet}
 use Rattle.py_meaning.specs.Name.{Name}
-use Rattle.py_meaning.specs.Tree.{Stmt, SAssign, SPrint, Body, none, more}
 use Rattle.py_meaning.specs.Rules.{has_name}
 
 -- the names of a set, in the order in which they came
@@ -14,14 +13,10 @@ texts s = map string_bytes s.keys
 abbrev pub with_name : List Name → Name → List Name
 with_name names x = if has_name names x then names else names ++ x ∷ []
 
--- with the name that a statement binds
-abbrev pub with_bound : List Name → Stmt → List Name
-with_bound names (SAssign p x e) = with_name names x
-with_bound names (SPrint p c e) = names
-
-abbrev pub with_all_bound : List Name → Body → List Name
-with_all_bound names none = names
-with_all_bound names (more s body) = with_all_bound (with_bound names s) body
+-- with some names more
+abbrev pub with_names : List Name → List Name → List Name
+with_names names [] = names
+with_names names (x ∷ more) = with_names (with_name names x) more
 
 -- what is written for a character of a name
 abbrev pub escaped_character : Bool → ℕ → List ℕ

@@ -2,13 +2,13 @@
 
 ghost use Rattle.std.specs.Prelude.{◌≡◌, [], ◌∷◌, ◌++◌, true, IfOk, OnOk, map, IsTrue, string_bytes};
 ghost use Rattle.py_meaning.specs.Rules.{are_reads_sure};
-ghost use Rattle.py_parser.specs.PlainTrees.{plain_expr, plain_binary, plain_stmt, plain_body, plain as plain_source};
-ghost use Rattle.cpp_ast.specs.Plain.{plain_expr as plain_operand, plain_binary as plain_operator, plain_block, plain_declaration, plain_definition, plain};
-ghost use Rattle.cpp_meaning.specs.Tree.{BodyHead, Body, Main};
+ghost use Rattle.py_parser.specs.PlainTrees.{plain_expr, plain_binary, plain_comparison, plain_condition, plain_stmt, plain_body, plain as plain_source};
+ghost use Rattle.cpp_ast.specs.Plain.{plain_expr as plain_operand, plain_binary as plain_operator, plain_stmt as plain_cpp_stmt, plain_block, plain_declaration, plain_definition, plain};
+ghost use Rattle.cpp_meaning.specs.Tree.{BodyHead, Body, Main, none};
 ghost use Rattle.shed_meaning.specs.EmittedName.{body_name as body_name_of};
 ghost use Rattle.shed_meaning.specs.Layout.{externs, variables};
 ghost use Rattle.cpp_emit.specs.Law.{IsTranslation};
-ghost use Rattle.cpp_emit.specs.Emit.{emit_operator as operator_of, emit_expr as operand_of, emit_block as block_of, prints, emit as emission_of};
+ghost use Rattle.cpp_emit.specs.Emit.{emit_operator as operator_of, emit_expr as operand_of, emit_comparison as comparison_of, emit_condition as condition_of, emit_print as print_of, emit_if as if_of, emit_body as body_of, emit_block as block_of, stmt_prints as statement_prints, prints as body_prints, emit as emission_of};
 ghost use Rattle.cpp_emit.specs.Names.{texts};
 ghost use Rattle.cpp_emit.specs.Blocks.{followed_by, statements_of};
 
@@ -19,7 +19,7 @@ use cpp_ast::{
     CppType, CppValue, CppZero,
 };
 use indexmap::IndexSet;
-use py_parser::tree::{BinaryOperator, Expr, Module, Stmt};
+use py_parser::tree::{BinaryOperator, Comparison, Condition, Expr, Module, Stmt};
 use shed_base::NoMemory;
 use sqlite_items::{Boxed, Items};
 use std::alloc::{AllocError, Global};
@@ -95,38 +95,65 @@ fn emit_source(
     Ok(source)
 }
 
-// The statements of a body, behind the temporary that its prints need.
+// The statements of a module's body, behind the temporary that its prints need.
+#[tactic(auto, using(crate::proofs::PlainViews::views))]
 fn emit_block(alloc: Global, body: &[Stmt]) -> Result<Items<CppStmt>, AllocError>
     ensures { IfOk result (λ block. plain_block block ≡ block_of (plain_body body.now)) }
 {
+    if !prints(body) {
+        return emit_body(alloc, body);
+    }
     let mut block = Items::new(alloc);
-    if has_prints(body) {
-        block.push(CppStmt::Declare(
-            CppType::Text,
-            temporary_name(alloc, PRINTED)?,
-            CppZero::Pointer,
-        ))?;
-    }
-    for stmt in body {
-        emit_stmt(alloc, &mut block, stmt)?;
-    }
+    block.push(CppStmt::Declare(
+        CppType::Text,
+        temporary_name(alloc, PRINTED)?,
+        CppZero::Pointer,
+    ))?;
+    block.append(emit_body(alloc, body)?)?;
     Ok(block)
 }
 
 // Whether a body prints.
-fn has_prints(body: &[Stmt]) -> bool
-    ensures { result ≡ prints (plain_body body.now) }
+#[cycle(prints)]
+fn prints(body: &[Stmt]) -> bool
+    ensures { result ≡ body_prints (plain_body body.now) }
 {
     for stmt in body {
-        if let Stmt::Print(..) = stmt {
+        if stmt_prints(stmt) {
             return true;
         }
     }
     false
 }
 
+#[cycle(prints)]
+#[tactic(auto, using(py_parser::specs::PlainTrees::plain_stmts))]
+fn stmt_prints(stmt: &Stmt) -> bool
+    ensures { result ≡ statement_prints (plain_stmt stmt.now) }
+{
+    match stmt {
+        Stmt::Assign(..) => false,
+        Stmt::Print(..) => true,
+        Stmt::If(_, _, body, other) => prints(body.as_slice()) || prints(other.as_slice()),
+        Stmt::While(_, _, body) => prints(body.as_slice()),
+    }
+}
+
+// The statements of a body.
+#[cycle(statements)]
+fn emit_body(alloc: Global, body: &[Stmt]) -> Result<Items<CppStmt>, AllocError>
+    ensures { IfOk result (λ block. plain_block block ≡ body_of (plain_body body.now)) }
+{
+    let mut block = Items::new(alloc);
+    for stmt in body {
+        emit_stmt(alloc, stmt, &mut block)?;
+    }
+    Ok(block)
+}
+
+#[cycle(statements)]
 #[tactic(auto, using(crate::proofs::BlocksGrow::pushes, crate::proofs::PlainViews::views))]
-fn emit_stmt(alloc: Global, block: &mut Items<CppStmt>, stmt: &Stmt) -> Result<(), AllocError>
+fn emit_stmt(alloc: Global, stmt: &Stmt, block: &mut Items<CppStmt>) -> Result<(), AllocError>
     ensures { OnOk result (plain_block block.new ≡ followed_by (plain_block block.old) (statements_of (plain_stmt stmt.now))) }
 {
     match stmt {
@@ -135,14 +162,66 @@ fn emit_stmt(alloc: Global, block: &mut Items<CppStmt>, stmt: &Stmt) -> Result<(
             let value = CppValue::Operand(emit_expr(alloc, value)?);
             block.push(CppStmt::Assign(target, value))
         }
-        Stmt::Print(_, _, value) => {
-            let value = call(alloc, CppRow::TextOf, emit_expr(alloc, value)?)?;
-            block.push(CppStmt::Assign(temporary_name(alloc, PRINTED)?, value))?;
-            let text = CppExpr::Named(temporary_name(alloc, PRINTED)?);
-            block.push(CppStmt::Perform(call(alloc, CppRow::Write, text)?))?;
-            let line_end = CppExpr::Literal(Items::from_slice(alloc, b"\n")?);
-            block.push(CppStmt::Perform(call(alloc, CppRow::Write, line_end)?))
+        Stmt::Print(_, _, value) => emit_print(alloc, value, block),
+        Stmt::If(_, test, body, other) => {
+            let test = emit_condition(alloc, test)?;
+            let body = emit_body(alloc, body.as_slice())?;
+            let other = emit_body(alloc, other.as_slice())?;
+            block.push(branches(test, body, other))
         }
+        Stmt::While(_, test, body) => {
+            let test = emit_condition(alloc, test)?;
+            let body = emit_body(alloc, body.as_slice())?;
+            block.push(CppStmt::While(test, body))
+        }
+    }
+}
+
+// There is an `else` where something is done otherwise.
+#[tactic(auto, using(crate::proofs::PlainViews::views))]
+fn branches(test: CppExpr, body: Items<CppStmt>, other: Items<CppStmt>) -> CppStmt
+    ensures { plain_cpp_stmt result ≡ if_of (plain_operand test) (plain_block body) (plain_block other) }
+{
+    if other.is_empty() {
+        CppStmt::If(test, body)
+    } else {
+        CppStmt::IfElse(test, body, other)
+    }
+}
+
+// The text of what is printed enters the temporary, and is written with the end of its line.
+#[tactic(auto, using(crate::proofs::BlocksGrow::pushes, crate::proofs::PlainViews::views))]
+fn emit_print(alloc: Global, value: &Expr, block: &mut Items<CppStmt>) -> Result<(), AllocError>
+    ensures { OnOk result (plain_block block.new ≡ followed_by (plain_block block.old) (print_of (operand_of (plain_expr value.now)) none)) }
+{
+    let value = call(alloc, CppRow::TextOf, emit_expr(alloc, value)?)?;
+    block.push(CppStmt::Assign(temporary_name(alloc, PRINTED)?, value))?;
+    let text = CppExpr::Named(temporary_name(alloc, PRINTED)?);
+    block.push(CppStmt::Perform(call(alloc, CppRow::Write, text)?))?;
+    let line_end = CppExpr::Literal(Items::from_slice(alloc, b"\n")?);
+    block.push(CppStmt::Perform(call(alloc, CppRow::Write, line_end)?))
+}
+
+#[tactic(auto, using(crate::proofs::PlainViews::views))]
+fn emit_condition(alloc: Global, condition: &Condition) -> Result<CppExpr, AllocError>
+    ensures { IfOk result (λ operand. plain_operand operand ≡ condition_of (plain_condition condition.now)) }
+{
+    let left = Boxed::new(alloc, emit_expr(alloc, &condition.left)?)?;
+    let right = Boxed::new(alloc, emit_expr(alloc, &condition.right)?)?;
+    let operator = emit_comparison(condition.operator);
+    Ok(CppExpr::Operate(operator, left, right))
+}
+
+fn emit_comparison(operator: Comparison) -> CppBinary
+    ensures { plain_operator result ≡ comparison_of (plain_comparison operator) }
+{
+    match operator {
+        Comparison::LessThan => CppBinary::Less,
+        Comparison::AtMost => CppBinary::LessOrEqual,
+        Comparison::GreaterThan => CppBinary::Greater,
+        Comparison::AtLeast => CppBinary::GreaterOrEqual,
+        Comparison::EqualTo => CppBinary::Equal,
+        Comparison::NotEqualTo => CppBinary::NotEqual,
     }
 }
 

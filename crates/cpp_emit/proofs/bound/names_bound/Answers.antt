@@ -1,14 +1,16 @@
-use Rattle.std.proofs.Common.{List, [], ap, ◌∙◌, drop}
-use Rattle.std.proofs.Math.ListN.{drop_of_length-le}
-use Rattle.py_parser.specs.declared.tree.Stmt.{Stmt}
+use Rattle.std.proofs.Common.{◌≡◌, List, [], ap, ◌∙◌, rules, arith}
+use Rattle.std.proofs.lemmas.Grind.{common_steps}
 use Rattle.py_parser.specs.PlainTrees.{plain_body}
-use Rattle.py_meaning.specs.Binding.{bound_after}
-use Rattle.cpp_emit.specs.Names.{texts}
-use Rattle.cpp_emit.proofs.NamesKept.{all_passed}
+use Rattle.py_meaning.specs.Binding.{targets, once}
+use Rattle.py_parser.specs.declared.tree.Stmt.{Stmt}
+use Rattle.cpp_emit.specs.Names.{texts, with_names}
+use Rattle.cpp_emit.proofs.NamesKept.{with_names-once}
 use Rattle.cpp_emit.proofs.bound.names_bound.Goals as goal
 
 pub returns : goal.returns
 returns c =
-    let items = c.as_slice-stmt-items.result.now in
-    all_passed (plain_body items) (plain_body (drop c.loop-stmt.stmt-index items)) (texts c.loop-stmt.names) (ap plain_body (drop_of_length-le items c.loop-stmt-test.false)) c.loop-stmt.invariant
-    ∙ ap (λ (s : List Stmt). bound_after [] (plain_body s)) c.as_slice-stmt-items.ensures
+    let empty : texts c.new-names.result ≡ [] = first_of (search rules, grind (arith, common_steps, c.new-names.ensures.empty)) in
+    c.in_ok-bind_targets.ensures
+    ∙ ap (λ ns. with_names ns (targets (plain_body c.as_slice.result.now))) empty
+    ∙ with_names-once (targets (plain_body c.as_slice.result.now)) []
+    ∙ ap (λ (body : List Stmt). once [] (targets (plain_body body))) c.as_slice.ensures
