@@ -13,9 +13,10 @@ use Rattle.py_parser.specs.declared.token.TokenKind.{TokenKind}
 use Rattle.py_parser.specs.declared.token.TokenKind.TheVariants as token
 use Rattle.py_parser.specs.declared.token.Token.{Token}
 use Rattle.py_parser.specs.declared.table.Kind.{Kind}
-use Rattle.py_parser.specs.declared.table.Kind.TheVariants.{Name}
+use Rattle.py_parser.specs.declared.table.Kind.TheVariants.{Name, Else, Colon, Less}
 use Rattle.py_parser.specs.declared.table.Nonterminal.{Nonterminal}
-use Rattle.py_parser.specs.declared.table.Nonterminal.TheVariants.{Statements, Statement, Sum, SumTail, Term, TermTail, Item}
+use Rattle.py_parser.specs.declared.table.Nonterminal.TheVariants as nonterminal
+use Rattle.py_parser.specs.declared.table.Nonterminal.TheVariants.{Statements, Statement, Block, Condition, ConditionTail, Sum, SumTail, Term, TermTail, Item}
 
 pub row_of-row_for : (x : Nonterminal) (s : Option Kind) → option_map plain_symbols (row_of x s) ≡ row_for (plain_nonterminal x) (option_map number s)
 row_of-row_for Statements None = refl
@@ -24,6 +25,18 @@ row_of-row_for Statements (Some _) = refl
 row_of-row_for Statement None = refl
 row_of-row_for Statement (Some Name) = refl
 row_of-row_for Statement (Some _) = refl
+row_of-row_for Block None = refl
+row_of-row_for Block (Some Colon) = refl
+row_of-row_for Block (Some _) = refl
+row_of-row_for nonterminal.Else None = refl
+row_of-row_for nonterminal.Else (Some Else) = refl
+row_of-row_for nonterminal.Else (Some _) = refl
+row_of-row_for Condition None = refl
+row_of-row_for Condition (Some Name) = refl
+row_of-row_for Condition (Some _) = refl
+row_of-row_for ConditionTail None = refl
+row_of-row_for ConditionTail (Some Less) = refl
+row_of-row_for ConditionTail (Some _) = refl
 row_of-row_for Sum None = refl
 row_of-row_for Sum (Some Name) = refl
 row_of-row_for Sum (Some _) = refl

@@ -8,10 +8,11 @@ use Rattle.py_parser.specs.PlainTrees.{plain_stmt, plain_body}
 use Rattle.py_parser.specs.declared.tree.Stmt.{Stmt}
 use Rattle.py_parser.specs.PlainTokens.{plain_token, plain_tokens}
 use Rattle.py_parser.specs.PlainTable.{plain_symbol, plain_symbols}
-use Rattle.py_parser.specs.PlainKept.{plain_operand, tokens_of, operands_of, stack_of}
+use Rattle.py_parser.specs.PlainKept.{plain_operand, plain_nested, tokens_of, operands_of, outer_of, stack_of}
 use Rattle.py_parser.specs.declared.table.Symbol.{Symbol}
 use Rattle.py_parser.specs.declared.token.Token.{Token}
 use Rattle.py_parser.specs.declared.parser.Operand.{Operand}
+use Rattle.py_parser.specs.declared.parser.Nested.{Nested}
 
 reverse_push : {A : Type 0} (xs : List A) (x : A) → reverse (xs ++ x ∷ []) ≡ x ∷ reverse xs
 reverse_push xs x = reverse-append xs (x ∷ [])
@@ -32,6 +33,14 @@ pub operands_of-nothing : operands_of [] ≡ []
 unfolding operands_of
 operands_of-nothing = refl
 
+pub outer_of-push : (xs : List Nested) (x : Nested) → outer_of (xs ++ x ∷ []) ≡ plain_nested x ∷ outer_of xs
+unfolding outer_of
+outer_of-push xs x = ap (map plain_nested) (reverse_push xs x)
+
+pub outer_of-nothing : outer_of [] ≡ []
+unfolding outer_of
+outer_of-nothing = refl
+
 pub stack_of-push : (xs : List Symbol) (x : Symbol) → stack_of (xs ++ x ∷ []) ≡ plain_symbol x ∷ stack_of xs
 unfolding stack_of
 stack_of-push xs x = ap plain_symbols (reverse_push xs x)
@@ -40,7 +49,7 @@ pub stack_of-nothing : stack_of [] ≡ []
 unfolding stack_of
 stack_of-nothing = refl
 
-pub ruleset stacks = (tokens_of-push, tokens_of-nothing, operands_of-push, operands_of-nothing, stack_of-push, stack_of-nothing)
+pub ruleset stacks = (tokens_of-push, tokens_of-nothing, operands_of-push, operands_of-nothing, outer_of-push, outer_of-nothing, stack_of-push, stack_of-nothing)
 
 pub body-push : (body : List Stmt) (s : Stmt) → plain_body (body ++ s ∷ []) ≡ add_behind (plain_body body) (plain_stmt s)
 body-push [] s = refl

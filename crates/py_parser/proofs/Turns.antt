@@ -6,7 +6,7 @@ use Rattle.grammars.specs.Sets.{has, ahead}
 use Rattle.grammars.specs.Run.{Outcome, Done, Stuck, first_row, pick, expand, run}
 use Rattle.py_meaning.specs.Token.{Token}
 use Rattle.py_meaning.specs.Table.{Nonterminal, Action, Built, Symbol, kind_of, rows, table, sets, goal}
-use Rattle.py_parser.specs.Bounded.{Kept, kept_at_start, keep, bounded_rows, bounded, row_for, Step, Going, Finished, Halted, expanded, one_step}
+use Rattle.py_parser.specs.Bounded.{Kept, kept_at_start, keep, body_if_kept, bounded_rows, bounded, row_for, Step, Going, Finished, Halted, expanded, one_step}
 use Rattle.py_parser.specs.Parsed.{IsParsed, RunsOn}
 use Rattle.py_parser.proofs.Bounds.{parsed_at_end, parsed_when_stuck}
 
@@ -60,7 +60,7 @@ runs_further turns ts symbols others v w rest left h e n =
     ap (λ (k : ℕ). run bounded sets k goal kept_at_start ts) m ∙ h (suc n) ∙ step_runs n symbols v rest ∙ ap (after n rest) (sym e)
 
 pub runs_to_end : (turns : ℕ) (ts : List Token) (symbols : List Symbol) (v w : Kept) (rest : List Token)
-    → RunsOn turns ts symbols v rest → Finished w ≡ one_step symbols v rest → IsParsed w.body ts
+    → RunsOn turns ts symbols v rest → Finished w ≡ one_step symbols v rest → IsParsed (body_if_kept w.body) ts
 unfolding RunsOn
 runs_to_end turns ts symbols v w rest h e = parsed_at_end (turns + 1) ts w (h 1 ∙ step_runs 0 symbols v rest ∙ ap (after 0 rest) (sym e))
 

@@ -9,7 +9,8 @@ use Rattle.py_parser.specs.declared.token.Token.{Token}
 use Rattle.py_parser.specs.declared.table.Kind.{Kind}
 use Rattle.py_parser.specs.declared.table.Kind.TheVariants.{Name, Number, Print, Equals, Plus, Minus, Star, Open, Close, Newline, Indent, Dedent, If, Else, While, Colon, Less, LessOrEqual, Greater, GreaterOrEqual, Same, Differs}
 use Rattle.py_parser.specs.declared.table.Nonterminal.{Nonterminal}
-use Rattle.py_parser.specs.declared.table.Nonterminal.TheVariants.{Statements, Statement, Sum, SumTail, Term, TermTail, Item}
+use Rattle.py_parser.specs.declared.table.Nonterminal.TheVariants as nonterminal
+use Rattle.py_parser.specs.declared.table.Nonterminal.TheVariants.{Statements, Statement, Block, Condition, ConditionTail, Sum, SumTail, Term, TermTail, Item}
 use Rattle.py_parser.specs.declared.table.Action.{Action}
 use Rattle.py_parser.specs.declared.table.Action.TheVariants as action
 use Rattle.py_parser.specs.declared.table.Symbol.{Symbol}
@@ -69,6 +70,10 @@ kind_of_token t = kind_of_kind t.kind
 abbrev pub plain_nonterminal : Nonterminal → meaning.Nonterminal
 plain_nonterminal Statements = meaning.Statements
 plain_nonterminal Statement = meaning.Statement
+plain_nonterminal Block = meaning.Block
+plain_nonterminal nonterminal.Else = meaning.Else
+plain_nonterminal Condition = meaning.Condition
+plain_nonterminal ConditionTail = meaning.ConditionTail
 plain_nonterminal Sum = meaning.Sum
 plain_nonterminal SumTail = meaning.SumTail
 plain_nonterminal Term = meaning.Term
@@ -81,6 +86,10 @@ plain_action action.Negate = meaning.Negate
 plain_action action.Join = meaning.Join
 plain_action action.Assign = meaning.Assign
 plain_action action.Print = meaning.Print
+plain_action action.Drop = meaning.Drop
+plain_action action.Begin = meaning.Begin
+plain_action action.Branch = meaning.Branch
+plain_action action.Loop = meaning.Loop
 
 abbrev pub plain_symbol : Symbol → meaning.Symbol
 plain_symbol (symbol.Read kind) = Tok (number kind)
@@ -90,14 +99,43 @@ plain_symbol (symbol.Do act) = Do (plain_action act)
 abbrev pub plain_symbols : List Symbol → List meaning.Symbol
 plain_symbols = map plain_symbol
 
+abbrev more_statements : List Symbol
+more_statements = symbol.Expand Statement ∷ symbol.Expand Statements ∷ []
+
+abbrev block : List Symbol
+block =
+    symbol.Read Colon ∷ symbol.Do action.Drop ∷ symbol.Read Newline ∷ symbol.Do action.Drop ∷ symbol.Read Indent ∷ symbol.Do action.Drop
+    ∷ symbol.Do action.Begin ∷ symbol.Expand Statement ∷ symbol.Expand Statements ∷ symbol.Read Dedent ∷ symbol.Do action.Drop ∷ []
+
 -- the row of the code's table
 abbrev pub row_of : Nonterminal → Option Kind → Option (List Symbol)
 row_of Statements None = Some []
-row_of Statements (Some Name) = Some (symbol.Expand Statement ∷ symbol.Expand Statements ∷ [])
-row_of Statements (Some Print) = Some (symbol.Expand Statement ∷ symbol.Expand Statements ∷ [])
+row_of Statements (Some Dedent) = Some []
+row_of Statements (Some Name) = Some more_statements
+row_of Statements (Some Print) = Some more_statements
+row_of Statements (Some If) = Some more_statements
+row_of Statements (Some While) = Some more_statements
 row_of Statement (Some Name) = Some (symbol.Read Name ∷ symbol.Read Equals ∷ symbol.Expand Sum ∷ symbol.Read Newline ∷ symbol.Do action.Assign ∷ [])
-row_of Statement (Some Print) =
-    Some (symbol.Read Print ∷ symbol.Read Open ∷ symbol.Expand Sum ∷ symbol.Read Close ∷ symbol.Read Newline ∷ symbol.Do action.Print ∷ [])
+row_of Statement (Some Print) = Some (symbol.Read Print ∷ symbol.Read Open ∷ symbol.Expand Sum ∷ symbol.Read Close ∷ symbol.Read Newline ∷ symbol.Do action.Print ∷ [])
+row_of Statement (Some If) = Some (symbol.Read If ∷ symbol.Expand Condition ∷ symbol.Expand Block ∷ symbol.Expand nonterminal.Else ∷ symbol.Do action.Branch ∷ [])
+row_of Statement (Some While) = Some (symbol.Read While ∷ symbol.Expand Condition ∷ symbol.Expand Block ∷ symbol.Do action.Loop ∷ [])
+row_of Block (Some Colon) = Some block
+row_of nonterminal.Else (Some Else) = Some (symbol.Read Else ∷ symbol.Do action.Drop ∷ symbol.Expand Block ∷ [])
+row_of nonterminal.Else None = Some (symbol.Do action.Begin ∷ [])
+row_of nonterminal.Else (Some Dedent) = Some (symbol.Do action.Begin ∷ [])
+row_of nonterminal.Else (Some Name) = Some (symbol.Do action.Begin ∷ [])
+row_of nonterminal.Else (Some Print) = Some (symbol.Do action.Begin ∷ [])
+row_of nonterminal.Else (Some If) = Some (symbol.Do action.Begin ∷ [])
+row_of nonterminal.Else (Some While) = Some (symbol.Do action.Begin ∷ [])
+row_of Condition (Some Name) = Some (symbol.Expand Sum ∷ symbol.Expand ConditionTail ∷ [])
+row_of Condition (Some Number) = Some (symbol.Expand Sum ∷ symbol.Expand ConditionTail ∷ [])
+row_of Condition (Some Minus) = Some (symbol.Expand Sum ∷ symbol.Expand ConditionTail ∷ [])
+row_of ConditionTail (Some Less) = Some (symbol.Read Less ∷ symbol.Expand Sum ∷ [])
+row_of ConditionTail (Some LessOrEqual) = Some (symbol.Read LessOrEqual ∷ symbol.Expand Sum ∷ [])
+row_of ConditionTail (Some Greater) = Some (symbol.Read Greater ∷ symbol.Expand Sum ∷ [])
+row_of ConditionTail (Some GreaterOrEqual) = Some (symbol.Read GreaterOrEqual ∷ symbol.Expand Sum ∷ [])
+row_of ConditionTail (Some Same) = Some (symbol.Read Same ∷ symbol.Expand Sum ∷ [])
+row_of ConditionTail (Some Differs) = Some (symbol.Read Differs ∷ symbol.Expand Sum ∷ [])
 row_of Sum (Some Name) = Some (symbol.Expand Term ∷ symbol.Expand SumTail ∷ [])
 row_of Sum (Some Number) = Some (symbol.Expand Term ∷ symbol.Expand SumTail ∷ [])
 row_of Sum (Some Minus) = Some (symbol.Expand Term ∷ symbol.Expand SumTail ∷ [])
@@ -105,6 +143,13 @@ row_of SumTail (Some Plus) = Some (symbol.Read Plus ∷ symbol.Expand Term ∷ s
 row_of SumTail (Some Minus) = Some (symbol.Read Minus ∷ symbol.Expand Term ∷ symbol.Do action.Join ∷ symbol.Expand SumTail ∷ [])
 row_of SumTail (Some Close) = Some []
 row_of SumTail (Some Newline) = Some []
+row_of SumTail (Some Colon) = Some []
+row_of SumTail (Some Less) = Some []
+row_of SumTail (Some LessOrEqual) = Some []
+row_of SumTail (Some Greater) = Some []
+row_of SumTail (Some GreaterOrEqual) = Some []
+row_of SumTail (Some Same) = Some []
+row_of SumTail (Some Differs) = Some []
 row_of Term (Some Name) = Some (symbol.Expand Item ∷ symbol.Expand TermTail ∷ [])
 row_of Term (Some Number) = Some (symbol.Expand Item ∷ symbol.Expand TermTail ∷ [])
 row_of Term (Some Minus) = Some (symbol.Expand Item ∷ symbol.Expand TermTail ∷ [])
@@ -113,6 +158,13 @@ row_of TermTail (Some Plus) = Some []
 row_of TermTail (Some Minus) = Some []
 row_of TermTail (Some Close) = Some []
 row_of TermTail (Some Newline) = Some []
+row_of TermTail (Some Colon) = Some []
+row_of TermTail (Some Less) = Some []
+row_of TermTail (Some LessOrEqual) = Some []
+row_of TermTail (Some Greater) = Some []
+row_of TermTail (Some GreaterOrEqual) = Some []
+row_of TermTail (Some Same) = Some []
+row_of TermTail (Some Differs) = Some []
 row_of Item (Some Name) = Some (symbol.Read Name ∷ symbol.Do action.Leaf ∷ [])
 row_of Item (Some Number) = Some (symbol.Read Number ∷ symbol.Do action.Leaf ∷ [])
 row_of Item (Some Minus) = Some (symbol.Read Minus ∷ symbol.Expand Item ∷ symbol.Do action.Negate ∷ [])

@@ -2,23 +2,25 @@
 
 ghost use Rattle.std.specs.Prelude.{◌≡◌, List, [], ◌∷◌, ◌++◌, reverse, length, IfOk, OnOk, MatchOption, string_bytes};
 ghost use Rattle.std.specs.Option.{option_map};
+ghost use Rattle.std.specs.Prelude.{max};
 ghost use Rattle.py_meaning.specs.Tree.{SAssign, SPrint};
-ghost use Rattle.py_meaning.specs.Table.{Leaf, Negate, Join, Assign, Print, add_behind};
-ghost use Rattle.py_meaning.specs.Table.{operator_of, Symbol as PlainSymbol};
+ghost use Rattle.py_meaning.specs.Table.{Leaf, Negate, Join, Assign, Print, Drop, Begin, Branch, Loop};
+ghost use Rattle.py_meaning.specs.Table.{operator_of, comparison_of, Symbol as PlainSymbol};
 ghost use Rattle.grammars.specs.Grammar.{Tok, Non};
 ghost use Rattle.py_parser.specs.PlainTokens.{plain_token, plain_tokens, plain_place, plain_kind};
-ghost use Rattle.py_parser.specs.PlainTrees.{plain_expr, plain, plain_binary, plain_stmt};
+ghost use Rattle.py_parser.specs.PlainTrees.{plain_expr, plain, plain_binary, plain_comparison, plain_stmt};
 ghost use Rattle.py_parser.specs.PlainTable.{plain_symbols, plain_action, plain_nonterminal, number};
-ghost use Rattle.py_parser.specs.PlainKept.{plain_operand, plain_kept, plain_next, stack_of, sight_of};
-ghost use Rattle.py_parser.specs.Bounded.{Kept as PlainValue, negated, joined, stated, perform, one_step, keep};
+ghost use Rattle.py_parser.specs.PlainKept.{plain_operand, plain_test, plain_nested, plain_kept, plain_next, stack_of, sight_of};
+ghost use Rattle.py_parser.specs.Bounded.{Kept as PlainValue, negated, joined, compared, added, assigned, printed, branched, looped, body_if_kept, perform, one_step, keep};
 ghost use Rattle.py_parser.specs.Parsed.{IsParsed};
 
 use crate::table::{Action, Kind, Nonterminal, Symbol, is_same, kind_of, row_at};
 use crate::token::{Mark, Token, TokenKind};
-use crate::tree::{BinaryOperator, Expr, Module, Stmt, UnaryOperator};
+use crate::tree::{BinaryOperator, Comparison, Condition, Expr, Module, Stmt, UnaryOperator};
 use shed_base::Place;
 use sqlite_items::{Boxed, Items};
 use std::alloc::{AllocError, Global};
+use std::mem;
 
 /// The most ancestors that a node may have.
 const MOST_ANCESTORS: u32 = 100;
@@ -32,13 +34,33 @@ enum Operand {
     TooHigh,
 }
 
+/// What an `if` or a `while` tests.
+#[derive(Debug, Drop)]
+enum Test {
+    /// With its height.
+    Tests(u32, Condition),
+    /// It is higher than a node may be deep.
+    TooHigh,
+}
+
+/// Statements of a module or of a block.
+#[derive(Debug, Drop)]
+enum Nested {
+    /// With the height of the highest.
+    Within(u32, Items<Stmt>),
+    /// One is higher than a node may be deep: none is kept.
+    TooDeep,
+}
+
 /// What has been built, and what has been read for what comes.
 #[derive(Debug, Drop)]
 struct Kept {
     tokens: Vec<Token>,
     operands: Vec<Operand>,
-    /// Nothing where a statement nests too much.
-    body: Option<Module>,
+    /// The innermost body.
+    body: Nested,
+    /// The bodies around it, the innermost last.
+    outer: Vec<Nested>,
 }
 
 /// What a step has come to.
@@ -100,6 +122,25 @@ fn operator(kind: &TokenKind) -> BinaryOperator
     }
 }
 
+fn comparison(kind: &TokenKind) -> Comparison
+    ensures { plain_comparison result ≡ comparison_of (plain_kind kind.now) }
+{
+    match kind {
+        TokenKind::Mark(Mark::Less) => Comparison::LessThan,
+        TokenKind::Mark(Mark::LessOrEqual) => Comparison::AtMost,
+        TokenKind::Mark(Mark::Greater) => Comparison::GreaterThan,
+        TokenKind::Mark(Mark::GreaterOrEqual) => Comparison::AtLeast,
+        TokenKind::Mark(Mark::Same) => Comparison::EqualTo,
+        _ => Comparison::NotEqualTo,
+    }
+}
+
+fn higher(one: u32, other: u32) -> u32
+    ensures { result ≡ max one other }
+{
+    if one < other { other } else { one }
+}
+
 #[tactic(auto, using(crate::specs::PlainTrees::plains))]
 fn joined_operands(
     alloc: Global,
@@ -112,7 +153,7 @@ fn joined_operands(
 {
     match (left, right) {
         (Operand::Known(one, a), Operand::Known(other, b)) => {
-            let height = if one < other { other } else { one };
+            let height = higher(one, other);
             if height < MOST_ANCESTORS {
                 let a = Boxed::new(alloc, a)?;
                 let b = Boxed::new(alloc, b)?;
@@ -122,6 +163,30 @@ fn joined_operands(
             }
         }
         _ => Ok(Operand::TooHigh),
+    }
+}
+
+fn compared_operands(place: Place, operator: Comparison, left: Operand, right: Operand) -> Test
+    ensures { plain_test result ≡ compared (plain_place place) (plain_comparison operator) (plain_operand left) (plain_operand right) }
+{
+    match (left, right) {
+        (Operand::Known(one, left), Operand::Known(other, right)) => {
+            let height = higher(one, other);
+            if height < MOST_ANCESTORS {
+                Test::Tests(
+                    height + 1,
+                    Condition {
+                        place,
+                        operator,
+                        left,
+                        right,
+                    },
+                )
+            } else {
+                Test::TooHigh
+            }
+        }
+        _ => Test::TooHigh,
     }
 }
 
@@ -171,49 +236,86 @@ fn join_kept(alloc: Global, kept: &mut Kept) -> Result<(), AllocError>
     Ok(())
 }
 
-/// Adds a statement, where there is a body.
+/// Adds a statement, whose highest part has this height.
 #[tactic(auto, using(crate::proofs::Stacks::bodies))]
-fn add_statement(body: &mut Option<Module>, statement: Stmt) -> Result<(), AllocError>
-    ensures { OnOk result (option_map plain body.new ≡ option_map (λ b. add_behind b (plain_stmt statement)) (option_map plain body.old)) }
+fn add_statement(body: &mut Nested, height: u32, statement: Stmt) -> Result<(), AllocError>
+    ensures { OnOk result (plain_nested body.new ≡ added height (plain_stmt statement) (plain_nested body.old)) }
 {
-    if let Some(module) = body {
-        module.body.push(statement)?;
+    match body {
+        Nested::Within(highest, statements) if height < MOST_ANCESTORS => {
+            statements.push(statement)?;
+            *highest = higher(*highest, height + 1);
+        }
+        _ => *body = Nested::TooDeep,
     }
     Ok(())
 }
 
-/// Adds an assignment, if its expression may stand there.
+#[tactic(auto, using(crate::specs::PlainTrees::plain_stmts))]
 fn assign_in(
-    body: &mut Option<Module>,
+    body: &mut Nested,
     place: Place,
     name: String,
     operand: Operand,
 ) -> Result<(), AllocError>
-    ensures { OnOk result (option_map plain body.new ≡ stated 99 (SAssign (plain_place place) (string_bytes name)) (plain_operand operand) (option_map plain body.old)) }
+    ensures { OnOk result (plain_nested body.new ≡ assigned (SAssign (plain_place place) (string_bytes name)) (plain_operand operand) (plain_nested body.old)) }
 {
     match operand {
-        Operand::Known(height, expr) if height <= MOST_ANCESTORS - 1 => {
-            add_statement(body, Stmt::Assign(place, name, expr))?;
+        Operand::Known(height, expr) => {
+            add_statement(body, height, Stmt::Assign(place, name, expr))?;
         }
-        _ => *body = None,
+        Operand::TooHigh => *body = Nested::TooDeep,
     }
     Ok(())
 }
 
-/// Adds a call of `print`, if its expression may stand there.
+#[tactic(auto, using(crate::specs::PlainTrees::plain_stmts))]
 fn print_in(
-    body: &mut Option<Module>,
+    body: &mut Nested,
     place: Place,
     call: Place,
     operand: Operand,
 ) -> Result<(), AllocError>
-    ensures { OnOk result (option_map plain body.new ≡ stated 98 (SPrint (plain_place place) (plain_place call)) (plain_operand operand) (option_map plain body.old)) }
+    ensures { OnOk result (plain_nested body.new ≡ printed (SPrint (plain_place place) (plain_place call)) (plain_operand operand) (plain_nested body.old)) }
 {
     match operand {
-        Operand::Known(height, expr) if height <= MOST_ANCESTORS - 2 => {
-            add_statement(body, Stmt::Print(place, call, expr))?;
+        Operand::Known(height, expr) if height < MOST_ANCESTORS => {
+            add_statement(body, height + 1, Stmt::Print(place, call, expr))?;
         }
-        _ => *body = None,
+        _ => *body = Nested::TooDeep,
+    }
+    Ok(())
+}
+
+#[tactic(auto, using(crate::specs::PlainTrees::plain_stmts))]
+fn branch_in(
+    around: &mut Nested,
+    place: Place,
+    test: Test,
+    body: Nested,
+    other: Nested,
+) -> Result<(), AllocError>
+    ensures { OnOk result (plain_nested around.new ≡ branched (plain_place place) (plain_test test) (plain_nested body) (plain_nested other) (plain_nested around.old)) }
+{
+    match (test, body, other) {
+        (Test::Tests(a, condition), Nested::Within(b, body), Nested::Within(c, other)) => {
+            let height = higher(higher(a, b), c);
+            add_statement(around, height, Stmt::If(place, condition, body, other))?;
+        }
+        _ => *around = Nested::TooDeep,
+    }
+    Ok(())
+}
+
+#[tactic(auto, using(crate::specs::PlainTrees::plain_stmts))]
+fn loop_in(around: &mut Nested, place: Place, test: Test, body: Nested) -> Result<(), AllocError>
+    ensures { OnOk result (plain_nested around.new ≡ looped (plain_place place) (plain_test test) (plain_nested body) (plain_nested around.old)) }
+{
+    match (test, body) {
+        (Test::Tests(a, condition), Nested::Within(b, body)) => {
+            add_statement(around, higher(a, b), Stmt::While(place, condition, body))?;
+        }
+        _ => *around = Nested::TooDeep,
     }
     Ok(())
 }
@@ -255,6 +357,61 @@ fn printing_kept(kept: &mut Kept) -> Result<(), AllocError>
     print_in(&mut kept.body, print.place, call.place, operand)
 }
 
+#[tactic(auto, using(crate::proofs::Stacks::stacks))]
+fn drop_kept(kept: &mut Kept) -> Result<(), AllocError>
+    ensures { OnOk result (plain_kept kept.new ≡ perform Drop (plain_kept kept.old)) }
+{
+    match kept.tokens.pop() {
+        Some(_) => Ok(()),
+        None => Err(AllocError),
+    }
+}
+
+#[tactic(auto, using(crate::proofs::Stacks::stacks))]
+fn begin_kept(alloc: Global, kept: &mut Kept) -> Result<(), AllocError>
+    ensures { OnOk result (plain_kept kept.new ≡ perform Begin (plain_kept kept.old)) }
+{
+    let around = mem::replace(&mut kept.body, Nested::Within(0, Items::new(alloc)));
+    kept.outer.push(around)?;
+    Ok(())
+}
+
+#[tactic(auto, using(crate::proofs::Stacks::stacks))]
+fn branch_kept(kept: &mut Kept) -> Result<(), AllocError>
+    ensures { OnOk result (plain_kept kept.new ≡ perform Branch (plain_kept kept.old)) }
+{
+    let (Some(operator), Some(first)) = (kept.tokens.pop(), kept.tokens.pop()) else {
+        return Err(AllocError);
+    };
+    let (Some(right), Some(left)) = (kept.operands.pop(), kept.operands.pop()) else {
+        return Err(AllocError);
+    };
+    let (Some(body), Some(around)) = (kept.outer.pop(), kept.outer.pop()) else {
+        return Err(AllocError);
+    };
+    let test = compared_operands(operator.place, comparison(&operator.kind), left, right);
+    let other = mem::replace(&mut kept.body, around);
+    branch_in(&mut kept.body, first.place, test, body, other)
+}
+
+#[tactic(auto, using(crate::proofs::Stacks::stacks))]
+fn loop_kept(kept: &mut Kept) -> Result<(), AllocError>
+    ensures { OnOk result (plain_kept kept.new ≡ perform Loop (plain_kept kept.old)) }
+{
+    let (Some(operator), Some(first)) = (kept.tokens.pop(), kept.tokens.pop()) else {
+        return Err(AllocError);
+    };
+    let (Some(right), Some(left)) = (kept.operands.pop(), kept.operands.pop()) else {
+        return Err(AllocError);
+    };
+    let Some(around) = kept.outer.pop() else {
+        return Err(AllocError);
+    };
+    let test = compared_operands(operator.place, comparison(&operator.kind), left, right);
+    let body = mem::replace(&mut kept.body, around);
+    loop_in(&mut kept.body, first.place, test, body)
+}
+
 fn act(alloc: Global, action: Action, kept: &mut Kept) -> Result<(), AllocError>
     ensures { OnOk result (plain_kept kept.new ≡ perform (plain_action action) (plain_kept kept.old)) }
 {
@@ -264,6 +421,10 @@ fn act(alloc: Global, action: Action, kept: &mut Kept) -> Result<(), AllocError>
         Action::Join => join_kept(alloc, kept),
         Action::Assign => assignment_kept(kept),
         Action::Print => printing_kept(kept),
+        Action::Drop => drop_kept(kept),
+        Action::Begin => begin_kept(alloc, kept),
+        Action::Branch => branch_kept(kept),
+        Action::Loop => loop_kept(kept),
     }
 }
 
@@ -360,6 +521,16 @@ fn step<'a>(
     }
 }
 
+/// The module with this body, if it is kept.
+fn module(body: Nested) -> Option<Module>
+    ensures { option_map plain result ≡ body_if_kept (plain_nested body) }
+{
+    match body {
+        Nested::Within(_, body) => Some(Module { body }),
+        Nested::TooDeep => None,
+    }
+}
+
 /// The tree of a module's tokens, if they have one that nests no more than it may.
 pub(crate) fn parse_tokens(alloc: Global, tokens: &[Token]) -> Result<Option<Module>, AllocError>
     ensures { IfOk result (λ parsed. IsParsed (option_map plain parsed) (plain_tokens tokens.now)) }
@@ -369,15 +540,14 @@ pub(crate) fn parse_tokens(alloc: Global, tokens: &[Token]) -> Result<Option<Mod
     let mut kept = Kept {
         tokens: Vec::new(alloc),
         operands: Vec::new(alloc),
-        body: Some(Module {
-            body: Items::new(alloc),
-        }),
+        body: Nested::Within(0, Items::new(alloc)),
+        outer: Vec::new(alloc),
     };
     let mut rest = tokens;
     for _turn in 0..u64::MAX {
         match step(alloc, &mut symbols, &mut kept, rest)? {
             Next::Goes(more) => rest = more,
-            Next::Done => return Ok(kept.body),
+            Next::Done => return Ok(module(kept.body)),
             Next::Stuck => return Ok(None),
         }
     }

@@ -71,10 +71,15 @@ fn pass(names: &mut HashSet<String>, statement: &Stmt) -> Result<bool, AllocErro
     if !stmt_reads_only(names, statement) {
         return Ok(false);
     }
-    if let Stmt::Assign(_, name, _) = statement {
-        names.insert(name.clone()?)?;
+    match statement {
+        Stmt::Assign(_, name, _) => {
+            names.insert(name.clone()?)?;
+            Ok(true)
+        }
+        Stmt::Print(_, _, _) => Ok(true),
+        Stmt::If(_, _, _, _) => Ok(true),
+        Stmt::While(_, _, _) => Ok(true),
     }
-    Ok(true)
 }
 
 /// Whether each read in a module stands after an assignment to its name that is a statement of the module itself.

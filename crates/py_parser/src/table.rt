@@ -37,6 +37,10 @@ pub enum Kind {
 pub enum Nonterminal {
     Statements,
     Statement,
+    Block,
+    Else,
+    Condition,
+    ConditionTail,
     Sum,
     SumTail,
     Term,
@@ -52,6 +56,14 @@ pub enum Action {
     Join,
     Assign,
     Print,
+    /// Forgets a token.
+    Drop,
+    /// Begins a body.
+    Begin,
+    /// Two bodies become an `if` of the body around them.
+    Branch,
+    /// A body becomes a `while` of the body around it.
+    Loop,
 }
 
 #[derive(Clone, Copy, Debug, PartialEq, Eq)]
@@ -62,8 +74,11 @@ pub enum Symbol {
     Do(Action),
 }
 
-use Action::{Assign, Join, Leaf, Negate};
-use Nonterminal::{Item, Statement, Statements, Sum, SumTail, Term, TermTail};
+use Action::{Assign, Begin, Branch, Join, Leaf, Loop, Negate};
+use Nonterminal::{
+    Block, Condition, ConditionTail, Else, Item, Statement, Statements, Sum, SumTail, Term,
+    TermTail,
+};
 use Symbol::{Do, Expand, Read};
 
 const NOTHING: &[Symbol] = &[];
@@ -86,6 +101,54 @@ const PRINTING: &[Symbol] = &[
     Read(Kind::Newline),
     Do(Action::Print),
 ];
+
+const BRANCHING: &[Symbol] = &[
+    Read(Kind::If),
+    Expand(Condition),
+    Expand(Block),
+    Expand(Else),
+    Do(Branch),
+];
+
+const LOOPING: &[Symbol] = &[
+    Read(Kind::While),
+    Expand(Condition),
+    Expand(Block),
+    Do(Loop),
+];
+
+const BLOCK: &[Symbol] = &[
+    Read(Kind::Colon),
+    Do(Action::Drop),
+    Read(Kind::Newline),
+    Do(Action::Drop),
+    Read(Kind::Indent),
+    Do(Action::Drop),
+    Do(Begin),
+    Expand(Statement),
+    Expand(Statements),
+    Read(Kind::Dedent),
+    Do(Action::Drop),
+];
+
+const ALTERNATIVE: &[Symbol] = &[Read(Kind::Else), Do(Action::Drop), Expand(Block)];
+
+/// Where there is no `else`, its body has no statement.
+const NO_ALTERNATIVE: &[Symbol] = &[Do(Begin)];
+
+const CONDITION: &[Symbol] = &[Expand(Sum), Expand(ConditionTail)];
+
+const LESS: &[Symbol] = &[Read(Kind::Less), Expand(Sum)];
+
+const LESS_OR_EQUAL: &[Symbol] = &[Read(Kind::LessOrEqual), Expand(Sum)];
+
+const GREATER: &[Symbol] = &[Read(Kind::Greater), Expand(Sum)];
+
+const GREATER_OR_EQUAL: &[Symbol] = &[Read(Kind::GreaterOrEqual), Expand(Sum)];
+
+const SAME: &[Symbol] = &[Read(Kind::Same), Expand(Sum)];
+
+const DIFFERS: &[Symbol] = &[Read(Kind::Differs), Expand(Sum)];
 
 const SUM: &[Symbol] = &[Expand(Term), Expand(SumTail)];
 
@@ -175,13 +238,38 @@ pub fn row_at(nonterminal: Nonterminal, sight: Option<Kind>) -> Option<&'static 
 {
     match nonterminal {
         Statements => match sight {
-            None => Some(NOTHING),
-            Some(Kind::Name | Kind::Print) => Some(MORE_STATEMENTS),
+            None | Some(Kind::Dedent) => Some(NOTHING),
+            Some(Kind::Name | Kind::Print | Kind::If | Kind::While) => Some(MORE_STATEMENTS),
             Some(_) => None,
         },
         Statement => match sight {
             Some(Kind::Name) => Some(ASSIGNMENT),
             Some(Kind::Print) => Some(PRINTING),
+            Some(Kind::If) => Some(BRANCHING),
+            Some(Kind::While) => Some(LOOPING),
+            _ => None,
+        },
+        Block => match sight {
+            Some(Kind::Colon) => Some(BLOCK),
+            _ => None,
+        },
+        Else => match sight {
+            Some(Kind::Else) => Some(ALTERNATIVE),
+            None | Some(Kind::Dedent) => Some(NO_ALTERNATIVE),
+            Some(Kind::Name | Kind::Print | Kind::If | Kind::While) => Some(NO_ALTERNATIVE),
+            Some(_) => None,
+        },
+        Condition => match sight {
+            Some(Kind::Name | Kind::Number | Kind::Minus) => Some(CONDITION),
+            _ => None,
+        },
+        ConditionTail => match sight {
+            Some(Kind::Less) => Some(LESS),
+            Some(Kind::LessOrEqual) => Some(LESS_OR_EQUAL),
+            Some(Kind::Greater) => Some(GREATER),
+            Some(Kind::GreaterOrEqual) => Some(GREATER_OR_EQUAL),
+            Some(Kind::Same) => Some(SAME),
+            Some(Kind::Differs) => Some(DIFFERS),
             _ => None,
         },
         Sum => match sight {
@@ -191,7 +279,9 @@ pub fn row_at(nonterminal: Nonterminal, sight: Option<Kind>) -> Option<&'static 
         SumTail => match sight {
             Some(Kind::Plus) => Some(ADDITION),
             Some(Kind::Minus) => Some(SUBTRACTION),
-            Some(Kind::Close | Kind::Newline) => Some(NOTHING),
+            Some(Kind::Close | Kind::Newline | Kind::Colon) => Some(NOTHING),
+            Some(Kind::Less | Kind::LessOrEqual | Kind::Greater) => Some(NOTHING),
+            Some(Kind::GreaterOrEqual | Kind::Same | Kind::Differs) => Some(NOTHING),
             _ => None,
         },
         Term => match sight {
@@ -200,7 +290,10 @@ pub fn row_at(nonterminal: Nonterminal, sight: Option<Kind>) -> Option<&'static 
         },
         TermTail => match sight {
             Some(Kind::Star) => Some(MULTIPLICATION),
-            Some(Kind::Plus | Kind::Minus | Kind::Close | Kind::Newline) => Some(NOTHING),
+            Some(Kind::Plus | Kind::Minus) => Some(NOTHING),
+            Some(Kind::Close | Kind::Newline | Kind::Colon) => Some(NOTHING),
+            Some(Kind::Less | Kind::LessOrEqual | Kind::Greater) => Some(NOTHING),
+            Some(Kind::GreaterOrEqual | Kind::Same | Kind::Differs) => Some(NOTHING),
             _ => None,
         },
         Item => match sight {
