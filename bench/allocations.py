@@ -2,8 +2,9 @@
 """Makes each allocation of `shed translate main` on a small module fail in turn, and reports how each run ends.
 
 Run at the top of the repository, outside the gate: every run builds the program for the kit's interpreter anew, which takes
-some 20 seconds. Each run is to end with status 8, which says `shed: no memory` or a front of it, until so late an allocation
-is asked for that none fails: from there on the status is 0. Any other ending is printed, and makes this script fail."""
+some 20 seconds. Each run is to end with status 8 and say `shed: no memory`, or with status 0: where the allocation that fails can
+be done without, or comes after all is done. Some runs in a row with status 0 end the search. Any other ending is printed,
+and makes this script fail."""
 import pathlib
 import re
 import subprocess
@@ -11,7 +12,7 @@ import sys
 
 crate = pathlib.Path(__file__).resolve().parent.parent / "crates" / "shed"
 # so many runs without a failure end the search
-ENOUGH = 3
+ENOUGH = 6
 
 
 def run(number):
@@ -24,21 +25,19 @@ def run(number):
 
 
 def main():
-    refused, passed, wrong = 0, 0, 0
-    number = 0
+    endings = {0: 0, 8: 0}
+    wrong, number, passed = 0, 0, 0
     while passed < ENOUGH:
         number += 1
         status, said = run(number)
-        if status == 0:
-            passed += 1
-        elif status == 8 and passed == 0 and "shed: no memory" in said:
-            refused += 1
+        passed = passed + 1 if status == 0 else 0
+        if status in endings and (status == 0 or "shed: no memory" in said):
+            endings[status] += 1
         else:
             wrong += 1
             print(f"allocation {number}: status {status}\n{said}")
-        if number % 10 == 0:
-            print(f"{number} tried", flush=True)
-    print(f"{refused} allocations failed in turn, each with status 8; {wrong} ended otherwise")
+        print(f"{number}: {status}", flush=True)
+    print(f"{number} runs: {endings[8]} with status 8, {endings[0]} with status 0, {wrong} otherwise")
     return 1 if wrong else 0
 
 

@@ -1,0 +1,5 @@
+pub mod Token
+pub mod Characters
+pub mod Lexeme
+pub mod Lines
+pub mod Tokens
