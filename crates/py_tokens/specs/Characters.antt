@@ -1,5 +1,6 @@
 -- Characters, and what a text begins with.
 use Rattle.std.specs.Prelude.{ℕ, zero, suc, ◌+◌, ◌-◌, ◌*◌, Bool, true, false, not, ◌&&◌, ◌||◌, if◌then◌else◌, ◌==◌, nat_le, nat_lt, List, [], ◌∷◌, length, Option, Some, None}
+use Rattle.std.specs.Char.{is_ascii_alphabetic, is_ascii_alphanumeric}
 use Rattle.unicode_ident.specs.Ident.{is_xid_start, is_xid_continue}
 
 -- the code points of a text, or of the rest of it
@@ -27,12 +28,13 @@ is_control c = (nat_lt c 32 && not (c == 9)) || (nat_le 127 c && nat_le c 159)
 abbrev pub is_quote : ℕ → Bool
 is_quote c = (c == 39) || (c == 34)
 
--- "Identifiers and keywords"
+-- "Identifiers and keywords": the characters of XID_Start and `_`, and those of XID_Continue; in ASCII these are letters,
+-- `_` and then digits too
 abbrev pub begins_name : ℕ → Bool
-begins_name c = (c == 95) || is_xid_start c
+begins_name c = (c == 95) || (if nat_lt c 128 then is_ascii_alphabetic c else is_xid_start c)
 
 abbrev pub continues_name : ℕ → Bool
-continues_name c = is_xid_continue c
+continues_name c = if nat_lt c 128 then is_ascii_alphanumeric c || (c == 95) else is_xid_continue c
 
 -- how many characters the line end has with which a text begins, or 0: a line feed, or a carriage return and one
 abbrev pub line_end : Text → ℕ

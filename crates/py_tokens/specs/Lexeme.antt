@@ -1,7 +1,7 @@
 -- What stands at the front of a text: white space, a comment, a line end or a token, each as long as it can be. Places
 -- and lines play no part here.
 use Rattle.std.specs.Prelude.{ℕ, zero, suc, ◌+◌, ◌-◌, ◌*◌, Bool, true, false, not, ◌&&◌, ◌||◌, if◌then◌else◌, ◌==◌, nat_le, nat_lt, List, [], ◌∷◌, ◌++◌, length, take, drop, codes, Option, Some, None, encode_utf8_all}
-use Rattle.std.specs.List.{take_while, list_any}
+use Rattle.std.specs.List.{take_while, list_any, list_all}
 use Rattle.std.specs.Str.{bytes_eq}
 use Rattle.runs.specs.Number.{Width, W32, W64}
 use Rattle.unicode_normalization.specs.Forms.{Nfkc, is_in_form}
@@ -58,10 +58,14 @@ keywords =
 abbrev pub most_bytes_of_name : ℕ
 most_bytes_of_name = 1000
 
+-- NFKC leaves it as it is; it changes nothing in ASCII
+abbrev pub is_normal : Text → Bool
+is_normal word = list_all (λ c. nat_lt c 128) word || is_in_form Nfkc word
+
 abbrev pub name_of : Text → Lexeme
 name_of word =
     if list_any (λ k. bytes_eq k word) keywords then Word (TKeyword word)
-    else (if not (is_in_form Nfkc word) then Broken NotNormal 0
+    else (if not (is_normal word) then Broken NotNormal 0
     else (if nat_lt most_bytes_of_name (length (encode_utf8_all word)) then Broken TooLong 0 else Word (TName (encode_utf8_all word))))
 
 abbrev pub name : Text → Front

@@ -13,6 +13,7 @@ mod outside;
 mod place;
 mod refusals;
 mod system;
+mod width;
 
 pub use memory_folder::MemoryFolder;
 pub use memory_sink::MemorySink;
@@ -21,6 +22,7 @@ pub use outside::{Folder, Sink, Source};
 pub use place::Place;
 pub use refusals::{Failed, IoRefusal, NoMemory};
 pub use system::{RealFolder, StdSink, StdSource};
+pub use width::Width;
 
 #[cfg(test)]
 mod tests;
