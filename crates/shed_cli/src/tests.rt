@@ -239,13 +239,17 @@ fn refuses_what_is_unbuilt(rt: HostRuntime) -> Result<(), Fail> {
 }
 
 // What comes before, how many times a piece, what comes behind, the number that it ends with, and what is said.
-const LIMITS: [(&str, usize, &str, &str, u8, &str); 6] = [
+const LIMITS: [(&str, usize, &str, &str, u8, &str); 10] = [
     ("x = ", 99, "-", "1\n", 0, ""),
     ("x = ", 100, "-", "1\n", 3, UNBUILT),
     ("x = 1", 99, " + 1", "\n", 0, ""),
     ("x = 1", 100, " + 1", "\n", 3, UNBUILT),
+    ("print(", 98, "-", "1)\n", 0, ""),
+    ("print(", 99, "-", "1)\n", 3, UNBUILT),
     ("", 1048576, "\n", "", 0, ""),
     ("", 1048577, "\n", "", 3, UNBUILT),
+    ("x=1\n", 174762, "x = 1\n", "", 0, ""),
+    ("x =1\n", 174762, "x = 1\n", "", 3, UNBUILT),
 ];
 
 #[test]
