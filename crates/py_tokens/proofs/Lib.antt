@@ -1,1 +1,5 @@
-mod TokenVectors
+mod Notation
+mod NumberVectors
+mod TextVectors
+mod SignVectors
+mod LineVectors
