@@ -9,3 +9,6 @@ pub mod Evaluation
 pub mod RunsAlike
 pub mod WholeNumbers
 pub mod EmissionTranslates
+pub mod ProgramVectors
+mod ProgramVectorsPlain
+mod ProgramVectorsBlocks
