@@ -97,3 +97,36 @@ fn a_real_folder_keeps_what_is_written(rt: HostRuntime) -> Result<(), Fail> {
     assert_eq!(rt; folder.read_file(alloc, name, 6)?, None);
     Ok(())
 }
+
+#[test]
+fn a_text_has_one_name(rt: HostRuntime) -> Result<(), Fail> {
+    let mut names = Names::new(rt.alloc())?;
+    let name = names.intern("spam")?;
+    assert_eq!(rt; names.intern("spam")?, name);
+    assert_eq!(rt; names.text(name), Some("spam"));
+    assert!(rt; names.intern("eggs")? != name);
+    Ok(())
+}
+
+#[test]
+fn the_special_texts_have_their_names(rt: HostRuntime) -> Result<(), Fail> {
+    let mut names = Names::new(rt.alloc())?;
+    for (name, text) in [
+        (Name::INIT, "__init__"),
+        (Name::STR, "__str__"),
+        (Name::EQ, "__eq__"),
+        (Name::LT, "__lt__"),
+        (Name::LEN, "__len__"),
+    ] {
+        assert_eq!(rt; names.intern(text)?, name);
+        assert_eq!(rt; names.text(name), Some(text));
+    }
+    Ok(())
+}
+
+#[test]
+fn an_unknown_number_has_no_text(rt: HostRuntime) -> Result<(), Fail> {
+    let names = Names::new(rt.alloc())?;
+    assert_eq!(rt; names.text(Name(5)), None);
+    Ok(())
+}
