@@ -1,5 +1,5 @@
 -- The places of texts in the list of a `Names`.
-use Rattle.std.proofs.Common.{◌≡◌, ℕ, zero, suc, ◌+◌, ◌<◌, ◌≤◌, Bool, true, false, length, get_or, take, Bor, List, [], ◌∷◌, ◌++◌, position, slice_get, Option, None, Some, is_some, Result, Ok, Err, OnOk, IfOk, ◌⊎◌, inl, inr, arith, refl, sym, ap, ◌∙◌, true≢false}
+use Rattle.std.proofs.Common.{◌≡◌, ℕ, zero, suc, ◌+◌, ◌<◌, ◌≤◌, Bool, true, false, length, get_or, take, Bor, List, [], ◌∷◌, ◌++◌, position, slice_get, Option, None, Some, is_some, Result, Ok, Err, OnOk, ◌⊎◌, inl, inr, arith, refl, sym, ap, ◌∙◌, true≢false}
 use Rattle.std.specs.Prelude.{◌||◌, codes, if◌then◌else◌, map, string_bytes, String, option_map}
 use Rattle.std.specs.List.{list_any, IsDistinct}
 use Rattle.std.specs.Str.{bytes_eq}
@@ -11,7 +11,7 @@ use Rattle.std.proofs.lemmas.List.Quantifiers.{position-Some}
 use Rattle.std.proofs.lemmas.Map.Keys.{IsDistinct-push, apart_from_distinct}
 use Rattle.std.proofs.lemmas.Option.{slice_get-get_or, slice_get-map, slice_get_within, get_or_from_slice_get}
 use Rattle.std.proofs.lemmas.Slice.Eq.{bytes_eq-Decides}
-use Rattle.shed_base.specs.Names.{special_texts, has_text, with_text, AreDistinct, OnePlace}
+use Rattle.shed_base.specs.Names.{special_texts, has_text, with_text, AreDistinct, OnePlace, KeptPlace}
 
 -- the test by which a set finds a text
 pub any_is_has : {Y : Type 0} (keys : List (String Y)) (x : List ℕ) → list_any (λ k. bytes_eq x (string_bytes k)) keys ≡ has_text (map string_bytes keys) x
@@ -111,11 +111,20 @@ one_place texts d i j x at_i at_j = by (cases_lt i j) (cases_lt j i)
     by (inr p) (inl after) = absurd (apart texts d j i x at_j at_i after)
     by (inr p) (inr q) = omega arith
 
--- what is so at each end is so at the good one
+-- and keeps it
+front : (texts more : List (List ℕ)) (i : ℕ) (x : List ℕ) → slice_get texts i ≡ Some x → slice_get (texts ++ more) i ≡ Some x
+front [] more i x e = absurd (true≢false (sym (ap is_some e)))
+front (y ∷ texts) more zero x e = e
+front (y ∷ texts) more (suc i) x e = front texts more i x e
+
+pub kept_place : KeptPlace
+kept_place texts more i x e = by (has_text texts more)
+  where
+    by : (b : Bool) → slice_get (if b then texts else texts ++ more ∷ []) i ≡ Some x
+    by true = e
+    by false = front texts (more ∷ []) i x e
+
+-- what is so whatever the answer is, is so where it is good
 pub on_ok : {T E P : Type 0} (r : Result T E) → P → OnOk r P
 on_ok (Ok x) p = p
 on_ok (Err e) p = tt
-
-pub if_ok : {T E : Type 0} {P Q : T → Type 0} (r : Result T E) → ((x : T) → P x → Q x) → IfOk r P → IfOk r Q
-if_ok (Ok x) f p = f x p
-if_ok (Err e) f p = tt

@@ -22,3 +22,7 @@ AreDistinct texts = IsDistinct bytes_eq texts
 -- so one text has one place
 abbrev pub OnePlace : Type 0
 OnePlace = (texts : List (List ℕ)) → AreDistinct texts → (i j : ℕ) (text : List ℕ) → slice_get texts i ≡ Some text → slice_get texts j ≡ Some text → i ≡ j
+
+-- and a text keeps its place when others come
+abbrev pub KeptPlace : Type 0
+KeptPlace = (texts : List (List ℕ)) (more : List ℕ) (i : ℕ) (text : List ℕ) → slice_get texts i ≡ Some text → slice_get (with_text texts more) i ≡ Some text

@@ -1,4 +1,4 @@
-//! What every layer of the compiler speaks of: places in the source, and the world outside.
+//! What every layer of the compiler speaks of: places in the source, names, and the world outside.
 //!
 //! All input and output goes through the traits `Source`, `Sink` and `Folder`. Objects in memory
 //! tell what they hold, so a contract above can say what was read and written. The objects of the
@@ -19,7 +19,7 @@ mod width;
 pub use memory_folder::MemoryFolder;
 pub use memory_sink::MemorySink;
 pub use memory_source::MemorySource;
-pub use names::{Name, Names, one_place, special_names};
+pub use names::{Name, Names, kept_place, one_place, special_names};
 pub use outside::{Folder, Sink, Source};
 pub use place::Place;
 pub use refusals::{Failed, IoRefusal, NoMemory};

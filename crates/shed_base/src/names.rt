@@ -1,5 +1,5 @@
 ghost use Rattle.std.specs.Prelude.{◌≡◌, ◌<◌, ◌^◌, ◌↔◌, codes, slice_get, option_copied, Some, true, IsOk, IfOk, OnOk, OnErr};
-ghost use Rattle.shed_base.specs.Names.{special_texts, has_text, with_text, AreDistinct, OnePlace};
+ghost use Rattle.shed_base.specs.Names.{special_texts, has_text, with_text, AreDistinct, OnePlace, KeptPlace};
 
 use crate::refusals::NoMemory;
 use indexmap::IndexSet;
@@ -116,4 +116,9 @@ pub fn special_names()
 /// A text of distinct texts has one place. This does nothing.
 pub fn one_place()
     ensures { OnePlace }
+{}
+
+/// A text keeps its place when others are interned. This does nothing.
+pub fn kept_place()
+    ensures { KeptPlace }
 {}

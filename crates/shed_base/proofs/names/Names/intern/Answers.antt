@@ -1,7 +1,8 @@
 use Rattle.std.proofs.Common.{◌≡◌, ◌≤◌, ◌+◌, ℕ, List, [], ◌∷◌, ◌++◌, length, slice_get, Some, false, map, string_bytes, arith, refl, sym, ap, subst, ◌∙◌}
 use Rattle.std.proofs.lemmas.List.{length-map, length_push}
+use Rattle.std.proofs.lemmas.Result.{IfOk-weaker}
 use Rattle.shed_base.specs.Names.{with_text, AreDistinct}
-use Rattle.shed_base.proofs.NamesPlaced.{kept, added, last_is_with, found, at_found, at_last, distinct-with_text, on_ok, if_ok}
+use Rattle.shed_base.proofs.NamesPlaced.{kept, added, last_is_with, found, at_found, at_last, distinct-with_text, on_ok}
 use Rattle.shed_base.proofs.names.Names.intern.Goals as goal
 
 pub returns-in-Some-clause-texts : goal.returns-in-Some-clause-texts
@@ -13,7 +14,7 @@ pub returns-in-Some-clause-place : goal.returns-in-Some-clause-place
 returns-in-Some-clause-place c =
     let x = c.args.text.now in
     let there : slice_get c.args.self.now c.in-Some.place ≡ Some x = ap (λ ts. slice_get ts c.in-Some.place) (sym c.self.view_is) ∙ at_found c.self.inside.texts.keys x c.in-Some.place c.in-Some.ensures.index in
-    if_ok c.at.result (λ name is. ap (λ n. slice_get c.args.self.now n) is ∙ there) c.at.ensures.place
+    IfOk-weaker c.at.result _ _ (λ name is. ap (λ n. slice_get c.args.self.now n) is ∙ there) c.at.ensures.place
 
 pub returns-in_err-name-clause-known : goal.returns-in_err-name-clause-known
 returns-in_err-name-clause-known c there =
