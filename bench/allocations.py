@@ -4,7 +4,7 @@
 Run at the top of the repository, outside the gate: every run builds the program for the kit's interpreter anew, which takes
 some 20 seconds. Each run is to end with status 8 and say `shed: no memory`, or with status 0: where the allocation that fails can
 be done without, or comes after all is done. Some runs in a row with status 0 end the search. Any other ending is printed,
-and makes this script fail."""
+and makes this script fail. A first word is the number to begin with."""
 import pathlib
 import re
 import subprocess
@@ -26,7 +26,8 @@ def run(number):
 
 def main():
     endings = {0: 0, 8: 0}
-    wrong, number, passed = 0, 0, 0
+    wrong, number, passed = 0, int(sys.argv[1]) - 1 if len(sys.argv) > 1 else 0, 0
+    begun = number
     while passed < ENOUGH:
         number += 1
         status, said = run(number)
@@ -37,7 +38,7 @@ def main():
             wrong += 1
             print(f"allocation {number}: status {status}\n{said}")
         print(f"{number}: {status}", flush=True)
-    print(f"{number} runs: {endings[8]} with status 8, {endings[0]} with status 0, {wrong} otherwise")
+    print(f"{number - begun} runs: {endings[8]} with status 8, {endings[0]} with status 0, {wrong} otherwise")
     return 1 if wrong else 0
 
 

@@ -5,6 +5,7 @@ and 40,000 lines of blocks that stand 20 deep in one another, and on 1 MB of sou
 Run at the top of the repository; it is skipped where there is no built program (crates/shed/out/shed). It prints lines a
 second and the growth of the time for each doubling of the size, which is 2 where time is linear."""
 import math
+import os
 import pathlib
 import subprocess
 import sys
@@ -85,5 +86,9 @@ for name, text in refused:
     with tempfile.TemporaryDirectory() as folder:
         (pathlib.Path(folder) / "main.py").write_text(text)
         begun = time.perf_counter()
-        done = subprocess.run([program, "translate", "main"], cwd=folder, capture_output=True)
-        print(f"1 MB of {name}: status {done.returncode} in {time.perf_counter() - begun:.3f} s, {done.stderr.decode().strip()}")
+        process = subprocess.Popen([program, "translate", "main"], cwd=folder, stderr=subprocess.PIPE, stdout=subprocess.DEVNULL)
+        said = process.stderr.read().decode().strip()
+        _, status, usage = os.wait4(process.pid, 0)
+        process.returncode = os.waitstatus_to_exitcode(status)
+        taken = time.perf_counter() - begun
+        print(f"1 MB of {name}: status {process.returncode} in {taken:.3f} s, {usage.ru_maxrss // 1024} MB of memory, {said}")
