@@ -1,3 +1,11 @@
 pub mod PlainTokens
 pub mod Reading
 pub mod PlainLexemes
+pub mod Digits
+pub mod Keywords
+pub mod Numbers
+pub mod Literals
+pub mod Escapes
+pub mod ContentsOfTexts
+pub mod Ahead
+pub mod Wanted

@@ -1,5 +1,5 @@
 -- The code's lexemes as the plain ones.
-use Rattle.std.specs.Prelude.{ℕ, string_bytes}
+use Rattle.std.specs.Prelude.{string_bytes}
 use Rattle.py_tokens.specs.Token as meaning
 use Rattle.py_tokens.specs.Lexeme as meaning_lexeme
 use Rattle.py_lexer.specs.PlainTokens.{keyword_text, operator_text}

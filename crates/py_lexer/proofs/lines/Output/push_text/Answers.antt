@@ -1,0 +1,12 @@
+use Rattle.std.proofs.Common.{◌≡◌, ◌∷◌, [], ◌++◌, List, ℕ, sym, ap, ◌∙◌, refl, subst}
+use Rattle.std.proofs.lemmas.Result.{on_ok_weaker}
+use Rattle.py_lexer.specs.PlainTokens.{plain_tokens}
+use Rattle.py_lexer.specs.Ahead.{Apart}
+use Rattle.py_lexer.proofs.OutputLemmas.{tokens-pushed}
+use Rattle.py_lexer.proofs.lines.Output.push_text.Goals as goal
+
+pub returns-in-Some-clause-apart : goal.returns-in-Some-clause-apart
+returns-in-Some-clause-apart c =
+    on_ok_weaker c.push_behind.result
+    (λ h a. h (λ texts. subst Apart (ap (plain_tokens texts) c.in-Some.ensures.items ∙ tokens-pushed texts c.pop.new.self.items c.in-Some.last) (a texts)))
+    c.push_behind.ensures.apart
