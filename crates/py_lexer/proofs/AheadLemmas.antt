@@ -1,12 +1,12 @@
 -- What the rest of a text has to give, by what stands at its front.
-use Rattle.std.proofs.Common.{◌≡◌, ℕ, zero, suc, ◌+◌, ◌-◌, ◌<◌, ◌≤◌, List, [], ◌∷◌, ◌++◌, take, drop, length, Bool, true, false, ◌&&◌, cond, Option, Some, None, refl, sym, ap, ◌∙◌, arith, subst, append_assoc, ◌||◌}
+use Rattle.std.proofs.Common.{◌≡◌, ℕ, zero, suc, ◌-◌, ◌<◌, List, [], ◌∷◌, ◌++◌, take, drop, length, Bool, true, false, cond, refl, sym, ap, ◌∙◌, arith, subst, append_assoc, ◌||◌}
 use Rattle.runs.specs.Number.{Width}
 use Rattle.py_tokens.specs.Token.{Place, Kind, TName, TKeyword, TOperator, TNumber, TText, TFloat, TImaginary, TBytes, TFormatted, TNewline, TIndent, TDedent, Refusal, UnclosedBracket, Token, Outcome, Tokens, Refused, next_place, place_after}
 use Rattle.py_tokens.specs.Characters.{Text}
-use Rattle.py_tokens.specs.Lexeme.{Lexeme, Blank, Nothing, LineEnd, Word, Broken, Front, front, front_of}
+use Rattle.py_tokens.specs.Lexeme.{Lexeme, Blank, Nothing, LineEnd, Word, Broken, front, front_of}
 use Rattle.py_tokens.specs.Lines.{Located, cut, is_opening, is_closing, are_partners, Open, unclosed, closed, bracketed_at, bracketed, Line, in_front, is_line_end, lines_of, Widths, no_width, wider, widths_from, is_word, words_of}
-use Rattle.py_tokens.specs.Tokens.{token, preceded, worded, dedents, indented, indented_from, newline_after, lined, all_lines, put_before, merged, merged_outcome}
-use Rattle.py_lexer.specs.Ahead.{located, Sofar, Blanks, Settled, Words, words_then, opened, line_from, lines_from, opened_by, is_text, Apart, is_bracket, settled}
+use Rattle.py_tokens.specs.Tokens.{token, preceded, newline_after, lined, all_lines}
+use Rattle.py_lexer.specs.Ahead.{located, Sofar, Blanks, Settled, Words, opened, lines_from, opened_by, is_bracket, settled}
 
 -- ---- whole lines
 

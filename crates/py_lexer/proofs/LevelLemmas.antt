@@ -1,10 +1,9 @@
 -- Levels of indentation that begin and end.
-use Rattle.std.proofs.Common.{◌≡◌, ◌≢◌, ℕ, zero, suc, ◌+◌, ◌<◌, List, [], ◌∷◌, ◌++◌, Bool, true, false, ◌&&◌, not, cond, nat_eq, nat_lt, Option, Some, None, inl, inr, refl, sym, ap, ◌∙◌, arith, tests}
+use Rattle.std.proofs.Common.{◌≡◌, ◌≢◌, ℕ, suc, List, [], ◌∷◌, Bool, true, false, ◌&&◌, not, cond, nat_eq, nat_lt, Option, Some, None, inl, inr, refl, sym, ap, ◌∙◌, arith, tests}
 use Rattle.std.proofs.lemmas.Bool.Decides.{eqb_tells}
-use Rattle.std.specs.Option.{option_map}
-use Rattle.py_tokens.specs.Token.{Place, TDedent, Token, Outcome, Tokens, Refused, MixedTabs, BadIndent}
+use Rattle.py_tokens.specs.Token.{Place, TDedent, Outcome, Tokens, Refused, MixedTabs}
 use Rattle.py_tokens.specs.Lines.{Widths}
-use Rattle.py_tokens.specs.Tokens.{token, preceded, levels_left, Indentation, Stays, Deeper, Back, Lost, Mixed, back, indentation, indented, indented_from, dedents, dropped}
+use Rattle.py_tokens.specs.Tokens.{token, preceded, levels_left, Indentation, Stays, Deeper, Back, Mixed, back, indented, indented_from, dedents, dropped}
 use Rattle.py_lexer.specs.Ahead.{back_to}
 use Rattle.py_lexer.proofs.AheadLemmas.{preceded-preceded}
 

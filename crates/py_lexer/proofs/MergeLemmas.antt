@@ -1,5 +1,5 @@
 -- Texts side by side are one: in a list that has none the next token changes only the end.
-use Rattle.std.proofs.Common.{◌≡◌, ℕ, List, [], ◌∷◌, ◌++◌, Bool, true, false, ◌&&◌, refl, sym, ap, ◌∙◌, append_assoc}
+use Rattle.std.proofs.Common.{◌≡◌, List, [], ◌∷◌, ◌++◌, Bool, true, false, ◌&&◌, refl, sym, ap, ◌∙◌, append_assoc}
 use Rattle.py_tokens.specs.Token.{Place, Kind, TName, TKeyword, TOperator, TNumber, TText, TFloat, TImaginary, TBytes, TFormatted, TNewline, TIndent, TDedent, Token, Outcome, Tokens, Refused}
 use Rattle.py_tokens.specs.Characters.{Text}
 use Rattle.py_tokens.specs.Tokens.{token, preceded, put_before, merged, merged_outcome}

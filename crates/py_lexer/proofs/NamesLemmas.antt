@@ -1,5 +1,5 @@
 -- Lists of names that grow, and results by their case.
-use Rattle.std.proofs.Common.{◌≡◌, ℕ, List, [], ◌∷◌, ◌++◌, sym, ap, ◌∙◌, subst, append-nil, append_assoc, Result, Ok, Err, IfOk, IfErr}
+use Rattle.std.proofs.Common.{◌≡◌, ℕ, List, [], ◌++◌, sym, ap, ◌∙◌, subst, append-nil, append_assoc, Result, Ok, Err, IfOk, IfErr}
 use Rattle.py_lexer.specs.Reading.{Extends}
 
 pub extends-same : (names : List (List ℕ)) → Extends names names

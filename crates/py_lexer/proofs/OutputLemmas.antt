@@ -1,8 +1,7 @@
 -- The output as one step of the code leaves it.
-use Rattle.std.proofs.Common.{◌≡◌, ℕ, suc, ◌+◌, ◌-◌, take, List, [], ◌∷◌, ◌++◌, length, map, reverse, false, refl, sym, ap, ◌∙◌, subst, append_assoc, Option, option_to_list, Some, None, arith}
-use Rattle.std.proofs.lemmas.List.{map-append, reverse-append, length-append, length-map, length-reverse}
+use Rattle.std.proofs.Common.{◌≡◌, ℕ, suc, ◌-◌, take, List, [], ◌∷◌, ◌++◌, length, map, reverse, false, refl, sym, ap, ◌∙◌, subst, append_assoc, Option, arith}
+use Rattle.std.proofs.lemmas.List.{map-append, reverse-append, length-append}
 use Rattle.py_tokens.specs.Token as meaning
-use Rattle.py_tokens.specs.Lines as meaning_lines
 use Rattle.py_tokens.specs.Tokens.{token, preceded, dedents, merged_outcome}
 use Rattle.py_lexer.specs.declared.refusal.LexRefusal.{LexRefusal}
 use Rattle.sqlite_items.specs.declared.items.Items.{Items}
@@ -10,10 +9,9 @@ use Rattle.py_lexer.specs.declared.token.TokenKind.{TokenKind}
 use Rattle.py_lexer.specs.declared.token.TokenKind.TheVariants as kind
 use Rattle.py_lexer.specs.declared.token.Token.{Token}
 use Rattle.py_lexer.specs.declared.lines.Widths.{Widths}
-use Rattle.py_lexer.specs.declared.lines.Output.{Output}
-use Rattle.py_lexer.specs.PlainTokens.{plain_place, plain_kind, plain_token, plain_tokens}
+use Rattle.py_lexer.specs.PlainTokens.{plain_kind, plain_token, plain_tokens}
 use Rattle.py_lexer.specs.Ahead.{is_text, Apart, Follows}
-use Rattle.py_lexer.specs.Wanted.{plain_widths, levels_of, followed, Turned, IsApart}
+use Rattle.py_lexer.specs.Wanted.{plain_widths, Turned}
 use Rattle.py_lexer.proofs.AheadLemmas.{preceded-preceded}
 use Rattle.py_lexer.proofs.MergeLemmas.{apart-more}
 

@@ -1,6 +1,6 @@
 -- One step of the code, and what it leaves to come.
-use Rattle.std.proofs.Common.{◌≡◌, ℕ, zero, suc, ◌+◌, slice_get, get_or, Some, None, Option, ◌<◌, List, [], ◌∷◌, ◌++◌, length, map, reverse, true, false, refl, sym, ap, ◌∙◌, subst, arith}
-use Rattle.std.proofs.lemmas.List.{map-append, reverse-append, length-map, length-reverse}
+use Rattle.std.proofs.Common.{◌≡◌, ℕ, zero, suc, slice_get, get_or, Some, ◌<◌, List, [], ◌∷◌, ◌++◌, length, map, reverse, true, false, refl, sym, ap, ◌∙◌, arith}
+use Rattle.std.proofs.lemmas.List.{reverse-append, length-map, length-reverse}
 use Rattle.py_tokens.specs.Token as meaning
 use Rattle.py_tokens.specs.Characters.{Text}
 use Rattle.py_tokens.specs.Lexeme.{Blank, Nothing, LineEnd, Word, Broken}

@@ -3,7 +3,7 @@ use Rattle.std.proofs.Common.{◌≡◌, ℕ, List, length, IsUtf8, true, cond, 
 use Rattle.std.proofs.lemmas.Str.{utf8_valid_len-IsUtf8}
 use Rattle.std.specs.Str.Lossy.{utf8_valid_len}
 use Rattle.runs.specs.Number.{Width}
-use Rattle.py_tokens.specs.Token.{Outcome, Refused, NotUtf8, place_after}
+use Rattle.py_tokens.specs.Token.{Refused, NotUtf8, place_after}
 use Rattle.py_tokens.specs.Tokens.{unmarked, beginning, tokens_of_characters, tokens_of}
 
 pub tokens_of-characters : (n : ℕ) (w : Width) (text : List ℕ) → IsUtf8 text → tokens_of n w text ≡ tokens_of_characters w (beginning n) (unmarked (chars text))

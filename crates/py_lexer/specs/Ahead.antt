@@ -1,5 +1,5 @@
 -- The tokens that the rest of a text has to give, from within a logical line on.
-use Rattle.std.specs.Prelude.{◌≡◌, ℕ, suc, Bool, true, false, ◌&&◌, ◌||◌, List, [], ◌∷◌, Option, Some, None}
+use Rattle.std.specs.Prelude.{◌≡◌, ℕ, Bool, true, false, ◌&&◌, ◌||◌, List, [], ◌∷◌}
 use Rattle.py_tokens.specs.Token.{Place, Kind, TOperator, TText, TNewline, Token, Outcome, Tokens}
 use Rattle.py_tokens.specs.Characters.{Text}
 use Rattle.py_tokens.specs.Lexeme.{Lexeme}

@@ -1,5 +1,5 @@
 -- The outcome of a text, where some of its tokens have come.
-use Rattle.std.specs.Prelude.{◌≡◌, ℕ, ◌||◌, false, List, [], ◌∷◌, ◌++◌, map, reverse, codes, Option, Some, None}
+use Rattle.std.specs.Prelude.{◌≡◌, ℕ, ◌||◌, false, List, ◌∷◌, map, reverse, codes, Option, Some, None}
 use Rattle.py_tokens.specs.Token as meaning
 use Rattle.py_tokens.specs.Characters.{Text}
 use Rattle.py_tokens.specs.Lines as lines

@@ -1,5 +1,4 @@
-use Rattle.std.proofs.Common.{◌≡◌, ℕ, List, chars, sym, ap, ◌∙◌, subst}
-use Rattle.py_tokens.specs.Token.{Outcome}
+use Rattle.std.proofs.Common.{◌≡◌, chars, sym, ap, ◌∙◌, subst}
 use Rattle.py_tokens.specs.Tokens.{unmarked, beginning, tokens_of_characters, tokens_of}
 use Rattle.py_lexer.specs.PlainTokens.{plain_width}
 use Rattle.py_lexer.specs.Reading.{AreTokens, IsRefused}

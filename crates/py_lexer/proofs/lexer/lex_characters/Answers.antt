@@ -1,11 +1,11 @@
-use Rattle.std.proofs.Common.{◌≡◌, ℕ, List, [], ◌∷◌, ◌++◌, length, take, drop, take-append-drop, sym, ap, ◌∙◌, subst, arith}
+use Rattle.std.proofs.Common.{◌≡◌, ℕ, [], ◌∷◌, take, drop, take-append-drop, sym, ap, ◌∙◌, subst, arith}
 use Rattle.std.proofs.lemmas.Result.{IfOk-weaker, IfErr-weaker}
 use Rattle.py_tokens.specs.Token.{place_after}
-use Rattle.py_tokens.specs.Lines.{no_width, cut, bracketed, lines_of}
+use Rattle.py_tokens.specs.Lines.{no_width, cut, bracketed}
 use Rattle.py_tokens.specs.Tokens.{merged_outcome}
 use Rattle.shed_base.specs.declared.place.Place.{Place}
 use Rattle.py_lexer.specs.PlainTokens.{plain_place, plain_width}
-use Rattle.py_lexer.specs.Reading.{IsRefused, AreTokens}
+use Rattle.py_lexer.specs.Reading.{IsRefused}
 use Rattle.py_lexer.specs.Wanted.{ahead}
 use Rattle.py_lexer.proofs.AheadLemmas.{all_lines-from, place_after-append}
 use Rattle.py_lexer.proofs.OutputLemmas.{empty}

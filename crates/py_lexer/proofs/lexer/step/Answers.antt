@@ -1,4 +1,4 @@
-use Rattle.std.proofs.Common.{◌≡◌, [], ◌∷◌, ◌<◌, length, take, drop, sym, ap, ◌∙◌, subst, arith, Some, None}
+use Rattle.std.proofs.Common.{◌∷◌, take, drop, sym, ap, ◌∙◌, subst, arith}
 use Rattle.py_tokens.specs.Token.{place_after}
 use Rattle.py_tokens.specs.Lines.{cut}
 use Rattle.py_lexer.specs.PlainTokens.{plain_place, plain_width}

@@ -1,4 +1,4 @@
-use Rattle.std.proofs.Common.{refl, [], ◌∷◌, sym, ap, ◌∙◌, subst, Some, None, List, take}
+use Rattle.std.proofs.Common.{◌∷◌, sym, ap, ◌∙◌, subst, Some, List, take}
 use Rattle.py_tokens.specs.Token.{Refused, place_after}
 use Rattle.py_tokens.specs.Lexeme.{Broken}
 use Rattle.py_tokens.specs.Lines.{Widths, lines_of, bracketed}

@@ -1,11 +1,11 @@
-use Rattle.std.proofs.Common.{refl, [], ◌∷◌, sym, ap, ◌∙◌, ◌≡◌, true, false}
+use Rattle.std.proofs.Common.{refl, ◌∷◌, sym, ap, ◌∙◌}
 use Rattle.py_tokens.specs.Token.{TOperator, UnclosedBracket}
 use Rattle.py_tokens.specs.Lexeme.{Word}
 use Rattle.py_tokens.specs.Lines.{is_opening, is_closing, are_partners, lines_of, bracketed}
 use Rattle.py_tokens.specs.Tokens.{token}
 use Rattle.py_lexer.specs.PlainTokens.{plain_place, plain_tokens, operator_text}
 use Rattle.py_lexer.specs.Ahead.{located, Words, lines_from}
-use Rattle.py_lexer.specs.Wanted.{pending_of, plain_open, opening_text, closing_text}
+use Rattle.py_lexer.specs.Wanted.{pending_of, plain_open, opening_text}
 use Rattle.py_lexer.proofs.AheadLemmas.{items-closing, items-other_closing, items-lone_closing}
 use Rattle.py_lexer.proofs.OutputLemmas.{follows-pushed, apart-pushed, outer-none}
 use Rattle.py_lexer.proofs.StepLemmas.{begun-step, begun-refused, closing-opens, closing-closes, pending-popped}

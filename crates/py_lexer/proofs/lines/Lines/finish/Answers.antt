@@ -1,7 +1,7 @@
-use Rattle.std.proofs.Common.{refl, [], ◌∷◌, ◌++◌, sym, ap, ◌∙◌, subst, Some, None, List, length}
-use Rattle.py_tokens.specs.Token.{Outcome, Refused, UnclosedBracket, TNewline}
+use Rattle.std.proofs.Common.{refl, [], ◌∷◌, ◌∙◌, subst, Some, List}
+use Rattle.py_tokens.specs.Token.{Refused, UnclosedBracket, TNewline}
 use Rattle.py_tokens.specs.Lines.{Widths}
-use Rattle.py_tokens.specs.Tokens.{token, preceded, all_lines, dedents}
+use Rattle.py_tokens.specs.Tokens.{token, preceded, all_lines}
 use Rattle.py_lexer.specs.PlainTokens.{plain_place, plain_tokens}
 use Rattle.py_lexer.specs.Ahead.{opened_by}
 use Rattle.py_lexer.specs.Wanted.{plain_sofar, followed, ahead, Turned}

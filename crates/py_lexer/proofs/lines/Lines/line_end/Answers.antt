@@ -1,7 +1,7 @@
-use Rattle.std.proofs.Common.{◌≡◌, refl, [], ◌∷◌, sym, ap, ◌∙◌, arith, List}
-use Rattle.py_tokens.specs.Token.{Outcome, TNewline}
+use Rattle.std.proofs.Common.{◌≡◌, refl, [], ◌∷◌, sym, ap, ◌∙◌, arith}
+use Rattle.py_tokens.specs.Token.{TNewline}
 use Rattle.py_tokens.specs.Lexeme.{LineEnd}
-use Rattle.py_tokens.specs.Lines.{Widths, no_width, lines_of, bracketed}
+use Rattle.py_tokens.specs.Lines.{no_width, lines_of, bracketed}
 use Rattle.py_tokens.specs.Tokens.{token, preceded, merged_outcome}
 use Rattle.py_lexer.specs.PlainTokens.{plain_place, plain_tokens}
 use Rattle.py_lexer.specs.Ahead.{located, Blanks, Settled, Words, lines_from}

@@ -1,4 +1,4 @@
-use Rattle.std.proofs.Common.{refl, [], ◌∷◌, ap, ◌∙◌, subst, Some}
+use Rattle.std.proofs.Common.{refl, ◌∷◌, ◌∙◌, subst}
 use Rattle.std.proofs.lemmas.Result.{IfOk-weaker}
 use Rattle.py_tokens.specs.Token.{TName}
 use Rattle.py_tokens.specs.Lexeme.{Word}

@@ -1,11 +1,11 @@
-use Rattle.std.proofs.Common.{refl, [], ◌∷◌, sym, ap, ◌∙◌, subst, ◌≡◌, true}
+use Rattle.std.proofs.Common.{refl, [], ◌∷◌, sym, ap, ◌∙◌, ◌≡◌, true}
 use Rattle.py_tokens.specs.Token.{TOperator}
 use Rattle.py_tokens.specs.Lexeme.{Word}
-use Rattle.py_tokens.specs.Lines.{Open, is_opening, lines_of, bracketed}
+use Rattle.py_tokens.specs.Lines.{is_opening, lines_of, bracketed}
 use Rattle.py_tokens.specs.Tokens.{token, preceded}
 use Rattle.py_lexer.specs.PlainTokens.{plain_place, plain_tokens, operator_text}
 use Rattle.py_lexer.specs.Ahead.{located, Words, lines_from}
-use Rattle.py_lexer.specs.Wanted.{pending_of, plain_open}
+use Rattle.py_lexer.specs.Wanted.{pending_of}
 use Rattle.py_lexer.proofs.AheadLemmas.{items-opening}
 use Rattle.py_lexer.proofs.OutputLemmas.{follows-pushed, apart-pushed}
 use Rattle.py_lexer.proofs.StepLemmas.{begun-step, opening-opens, pending-opened}

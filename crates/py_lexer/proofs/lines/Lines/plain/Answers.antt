@@ -1,4 +1,4 @@
-use Rattle.std.proofs.Common.{refl, [], ◌∷◌}
+use Rattle.std.proofs.Common.{refl, ◌∷◌}
 use Rattle.py_tokens.specs.Lexeme.{Word}
 use Rattle.py_tokens.specs.Tokens.{token}
 use Rattle.py_lexer.specs.PlainTokens.{plain_place, plain_kind, plain_tokens}

@@ -1,4 +1,4 @@
-use Rattle.std.proofs.Common.{[], ◌∷◌, sym, subst}
+use Rattle.std.proofs.Common.{◌∷◌, sym, subst}
 use Rattle.py_lexer.specs.PlainTokens.{plain_place}
 use Rattle.py_lexer.specs.PlainLexemes.{plain_lexeme}
 use Rattle.py_lexer.specs.Reading.{IsRefused}

@@ -1,6 +1,5 @@
-use Rattle.std.proofs.Common.{refl, [], ◌∷◌, sym, ap, ◌∙◌, subst, Some, None, List}
+use Rattle.std.proofs.Common.{refl, ◌∷◌, sym, ◌∙◌, subst, Some, List}
 use Rattle.std.proofs.lemmas.Result.{IfOk-weaker, on_ok_weaker}
-use Rattle.py_tokens.specs.Token.{Outcome}
 use Rattle.py_tokens.specs.Lexeme.{Word}
 use Rattle.py_tokens.specs.Lines.{Widths, lines_of, bracketed}
 use Rattle.py_lexer.specs.declared.lines.Progress.TheVariants as progress

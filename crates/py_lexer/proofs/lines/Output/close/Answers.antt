@@ -1,4 +1,4 @@
-use Rattle.std.proofs.Common.{◌≡◌, ◌∷◌, [], ◌++◌, length, sym, ap, ◌∙◌, refl}
+use Rattle.std.proofs.Common.{◌++◌, length, ap, ◌∙◌, refl}
 use Rattle.py_tokens.specs.Token.{TDedent}
 use Rattle.py_tokens.specs.Tokens.{dedents}
 use Rattle.py_lexer.specs.PlainTokens.{plain_place, plain_tokens}

@@ -1,6 +1,5 @@
-use Rattle.std.proofs.Common.{◌≡◌, ◌∷◌, [], List, ℕ, map, reverse, sym, ap, ◌∙◌, refl}
+use Rattle.std.proofs.Common.{◌∷◌, [], map, reverse, sym, ap, ◌∙◌, refl}
 use Rattle.py_tokens.specs.Token.{Outcome, TDedent}
-use Rattle.py_tokens.specs.Lines.{Widths}
 use Rattle.py_tokens.specs.Tokens.{token, preceded, merged_outcome, indented}
 use Rattle.py_lexer.specs.PlainTokens.{plain_place, plain_tokens}
 use Rattle.py_lexer.specs.Ahead.{back_to}

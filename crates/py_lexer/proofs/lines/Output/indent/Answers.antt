@@ -1,9 +1,9 @@
-use Rattle.std.proofs.Common.{◌≡◌, ◌∷◌, [], List, ℕ, map, reverse, sym, ap, ◌∙◌, refl, subst, Some, None, Option}
+use Rattle.std.proofs.Common.{◌∷◌, map, reverse, sym, ap, ◌∙◌, refl}
 use Rattle.std.proofs.lemmas.Result.{IfOk-weaker}
-use Rattle.py_tokens.specs.Token.{Outcome, TIndent}
-use Rattle.py_tokens.specs.Tokens.{token, preceded, merged_outcome, indented, indented_from}
+use Rattle.py_tokens.specs.Token.{TIndent}
+use Rattle.py_tokens.specs.Tokens.{token, preceded, merged_outcome, indented}
 use Rattle.py_lexer.specs.PlainTokens.{plain_place, plain_tokens}
-use Rattle.py_lexer.specs.Wanted.{plain_widths, levels_of, followed, Turned}
+use Rattle.py_lexer.specs.Wanted.{plain_widths, levels_of, followed}
 use Rattle.py_lexer.proofs.LevelLemmas.{indented-stays, indented-deeper, indented-back, indented-mixed}
 use Rattle.py_lexer.proofs.OutputLemmas.{follows-pushed, apart-pushed, outer-pushed, turned-from}
 use Rattle.py_lexer.proofs.lines.Output.indent.Goals as goal
