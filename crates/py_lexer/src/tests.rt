@@ -136,7 +136,7 @@ fn at(line: u32, column: u32) -> Place {
 
 #[test]
 fn refuses_texts(rt: HostRuntime) -> Result<(), Fail> {
-    let cases: [(&[u8], LexRefusal); 22] = [
+    let cases: [(&[u8], LexRefusal); 25] = [
         (b"a\n b\xff", LexRefusal::NotUtf8(at(2, 3))),
         (b"( \xff", LexRefusal::NotUtf8(at(1, 3))),
         (b"a $", LexRefusal::BadCharacter(at(1, 3))),
@@ -158,6 +158,9 @@ fn refuses_texts(rt: HostRuntime) -> Result<(), Fail> {
         (b"2147483648", LexRefusal::WideNumber(at(1, 1))),
         (b"'a\xc3\xa4'", LexRefusal::NonAsciiText(at(1, 3))),
         (b"\xef\xac\x81", LexRefusal::NotNormal(at(1, 1))),
+        (b"a = e\xcc\x81", LexRefusal::NotNormal(at(1, 5))),
+        (b"\xe2\x82\xac", LexRefusal::BadCharacter(at(1, 1))),
+        (b"a\xc2\xa0b", LexRefusal::BadCharacter(at(1, 2))),
         (b"0777", LexRefusal::BadCharacter(at(1, 2))),
     ];
     for (text, want) in cases {
@@ -177,6 +180,30 @@ fn the_width_bounds_numbers(rt: HostRuntime) -> Result<(), Fail> {
     for (text, width, want) in cases {
         let refused = refusal(&rt, text, width)?.is_some();
         assert_eq!(rt; refused, want, "at {text:?}");
+    }
+    Ok(())
+}
+
+#[test]
+fn bounds_names(rt: HostRuntime) -> Result<(), Fail> {
+    let cases = [
+        ("a", 1000, false),
+        ("a", 1001, true),
+        ("\u{e4}", 500, false),
+        ("\u{e4}", 501, true),
+    ];
+    for (letter, count, is_long) in cases {
+        let text = format!(in rt.alloc(); "x = {}", letter.repeat(rt.alloc(), count)?)?;
+        let want = if is_long {
+            Some(LexRefusal::TooLong(at(1, 5)))
+        } else {
+            None
+        };
+        assert_eq!(rt;
+            refusal(&rt, text.as_bytes(), Width::W32)?,
+            want,
+            "{count} times {letter}"
+        );
     }
     Ok(())
 }
