@@ -12,3 +12,4 @@ mod OutputLemmas
 mod StepLemmas
 mod NamesLemmas
 mod TextLemmas
+mod NumberingLemmas

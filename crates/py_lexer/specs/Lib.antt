@@ -9,3 +9,4 @@ pub mod Escapes
 pub mod ContentsOfTexts
 pub mod Ahead
 pub mod Wanted
+pub mod Numbering

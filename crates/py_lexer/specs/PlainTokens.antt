@@ -1,9 +1,8 @@
 -- The code's tokens as the plain tokens that definitions speak of. Names are numbers of texts.
-use Rattle.std.specs.Prelude.{ℕ, List, [], ◌∷◌, map, get_or, codes}
+use Rattle.std.specs.Prelude.{ℕ, List, [], map, get_or, codes}
 use Rattle.runs.specs.Number.{Width as PlainWidth, W32, W64}
 use Rattle.py_tokens.specs.Token as meaning
 use Rattle.shed_base.specs.declared.place.Place.{Place}
-use Rattle.shed_base.specs.declared.names.Name.{Name}
 use Rattle.shed_base.specs.declared.width.Width.{Width}
 use Rattle.shed_base.specs.declared.width.Width.TheVariants as width
 use Rattle.py_lexer.specs.declared.token.Keyword.{Keyword}

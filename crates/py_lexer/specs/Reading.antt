@@ -1,10 +1,11 @@
 -- What cutting a text into tokens gives.
-use Rattle.std.specs.Prelude.{◌≡◌, ℕ, List, ◌++◌}
-use Rattle.runs.specs.Number.{Width}
+use Rattle.std.specs.Prelude.{◌≡◌, ℕ, ◌<◌, List, [], ◌∷◌, ◌++◌, length}
 use Rattle.py_tokens.specs.Token.{NotUtf8, BadCharacter, BadIndent, MixedTabs, UnclosedText, UnclosedBracket, BadEscape, WideNumber, NonAsciiText, NotNormal, TooLong, Outcome, Tokens, Refused}
 use Rattle.py_lexer.specs.PlainTokens.{plain_place, plain_tokens}
 use Rattle.py_lexer.specs.declared.refusal.LexRefusal.{LexRefusal}
 use Rattle.py_lexer.specs.declared.refusal.LexRefusal.TheVariants as refusal
+use Rattle.py_lexer.specs.declared.token.TokenKind.{TokenKind}
+use Rattle.py_lexer.specs.declared.token.TokenKind.TheVariants as kind
 use Rattle.py_lexer.specs.declared.token.Token.{Token}
 
 -- these are the tokens, where names stand for these texts
@@ -29,3 +30,12 @@ IsRefused outcome refusal.NoMemory = Unit {0}
 -- names may have been added, and none is lost
 abbrev pub Extends : List (List ℕ) → List (List ℕ) → Type 0
 Extends old new = (further : List (List ℕ)) × (new ≡ old ++ further)
+
+-- the number of a name is the place of a text
+abbrev pub IsHeld : List (List ℕ) → TokenKind → Type 0
+IsHeld texts (kind.Name name) = name.0 < length texts
+IsHeld texts _ = Unit {0}
+
+abbrev pub AreHeld : List (List ℕ) → List Token → Type 0
+AreHeld texts [] = Unit {0}
+AreHeld texts (t ∷ ts) = IsHeld texts t.kind × AreHeld texts ts

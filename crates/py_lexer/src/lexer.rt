@@ -3,9 +3,11 @@
 ghost use Rattle.std.specs.Prelude.{ℕ, ◌≡◌, ◌+◌, ◌≤◌, ◌++◌, List, [], ◌∷◌, length, take, drop, chars, IfOk, IfErr};
 ghost use Rattle.py_tokens.specs.Token as meaning;
 ghost use Rattle.py_tokens.specs.Lines.{cut};
+ghost use Rattle.py_tokens.specs.Names.{names_in};
 ghost use Rattle.py_tokens.specs.Tokens as meaning_tokens;
-ghost use Rattle.py_lexer.specs.PlainTokens.{plain_place, plain_width};
-ghost use Rattle.py_lexer.specs.Reading.{AreTokens, IsRefused, Extends};
+ghost use Rattle.py_lexer.specs.Numbering.{with_texts, Numbers};
+ghost use Rattle.py_lexer.specs.PlainTokens.{plain_place, plain_width, plain_tokens};
+ghost use Rattle.py_lexer.specs.Reading.{AreTokens, IsRefused, Extends, AreHeld};
 ghost use Rattle.py_lexer.specs.Wanted.{ahead, IsApart};
 
 use crate::lexeme::{Front, front_of};
@@ -49,6 +51,7 @@ fn step(
     ensures place { IfOk result (λ r. IfOk r (λ next. plain_place next.0 ≡ meaning.place_after (plain_place place) (take next.1 rest.now))) }
     ensures within { IfOk result (λ r. IfOk r (λ next. (1 ≤ next.1) × (next.1 ≤ length rest.now))) }
     ensures apart { IfOk result (λ r. IfOk r (λ next. IsApart lines.old.output → IsApart lines.new.output)) }
+    ensures numbered { IfOk result (λ r. IfOk r (λ next. Numbers names.old lines.old.output names.new lines.new.output)) }
     ensures refused { IfOk result (λ r. IfErr r (λ refusal. (texts : List (List ℕ)) (end : meaning.Place) → Extends names.new texts → IsRefused (ahead texts lines.old end (cut (plain_width width) (plain_place place) 0 rest.now)) refusal)) }
     ensures names { Extends names.old names.new }
 {
@@ -77,6 +80,8 @@ fn lex_characters(
     ensures tokens { IfOk result (λ r. IfOk r (λ ts. AreTokens (meaning_tokens.tokens_of_characters (plain_width width) (plain_place beginning) text.now) names.new ts.items)) }
     ensures refused { IfOk result (λ r. IfErr r (λ refusal. IsRefused (meaning_tokens.tokens_of_characters (plain_width width) (plain_place beginning) text.now) refusal)) }
     ensures names { Extends names.old names.new }
+    ensures numbered { IfOk result (λ r. IfOk r (λ ts. names.new ≡ with_texts names.old (names_in (plain_tokens names.new ts.items)))) }
+    ensures held { IfOk result (λ r. IfOk r (λ ts. AreHeld names.new ts.items)) }
 {
     let mut lines = Lines::new(alloc, beginning);
     let mut place = beginning;
@@ -126,12 +131,15 @@ fn lex_text(
     ensures tokens { IfOk result (λ r. IfOk r (λ ts. AreTokens (meaning_tokens.tokens_of_characters (plain_width width) (plain_place beginning) (meaning_tokens.unmarked (chars text.now))) names.new ts.items)) }
     ensures refused { IfOk result (λ r. IfErr r (λ refusal. IsRefused (meaning_tokens.tokens_of_characters (plain_width width) (plain_place beginning) (meaning_tokens.unmarked (chars text.now))) refusal)) }
     ensures names { Extends names.old names.new }
+    ensures numbered { IfOk result (λ r. IfOk r (λ ts. names.new ≡ with_texts names.old (names_in (plain_tokens names.new ts.items)))) }
+    ensures held { IfOk result (λ r. IfOk r (λ ts. AreHeld names.new ts.items)) }
 {
     let characters = characters_of(alloc, text)?;
     lex_characters(alloc, unmarked(&characters), beginning, width, names)
 }
 
-/// The tokens of a module's text, or the first reason why it has none. After a refusal `names` may hold more texts.
+/// The tokens of a module's text, or the first reason why it has none. The texts of its names are added to `names` in
+/// their order. After a refusal `names` may hold more texts.
 pub fn lex(
     alloc: Global,
     text: &[u8],
@@ -142,6 +150,8 @@ pub fn lex(
     ensures tokens { IfOk result (λ ts. AreTokens (meaning_tokens.tokens_of «module» (plain_width width) text.now) names.new ts.items) }
     ensures refused { IfErr result (IsRefused (meaning_tokens.tokens_of «module» (plain_width width) text.now)) }
     ensures names { Extends names.old names.new }
+    ensures numbered { IfOk result (λ ts. names.new ≡ with_texts names.old (names_in (plain_tokens names.new ts.items))) }
+    ensures held { IfOk result (λ ts. AreHeld names.new ts.items) }
 {
     let beginning = Place {
         module,

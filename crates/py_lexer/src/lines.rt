@@ -9,6 +9,7 @@ ghost use Rattle.py_tokens.specs.Characters.{Text};
 ghost use Rattle.py_lexer.specs.PlainTokens.{plain_place, plain_kind, plain_token, plain_tokens, operator_text};
 ghost use Rattle.py_lexer.specs.PlainLexemes.{plain_word, plain_fault, plain_lexeme};
 ghost use Rattle.py_lexer.specs.Reading.{AreTokens, IsRefused, Extends};
+ghost use Rattle.py_lexer.specs.Numbering.{numbers_of, number_behind, Numbers};
 ghost use Rattle.py_lexer.specs.Ahead.{located, opened_by, back_to, is_text, is_bracket, Follows, Apart, Blanks, lines_from};
 ghost use Rattle.py_lexer.specs.Wanted.{plain_widths, plain_sofar, IsSide, opening_text, closing_text, followed, ahead, Turned, IsApart};
 
@@ -191,6 +192,7 @@ impl Output {
         ensures tokens { OnOk result ((texts : List (List ℕ)) → plain_tokens texts self.new.tokens.items ≡ plain_tokens texts self.old.tokens.items ++ token (plain_place place) (plain_kind texts kind) ∷ []) }
         ensures innermost { self.new.innermost ≡ self.old.innermost }
         ensures outer { self.new.outer ≡ self.old.outer }
+        ensures numbers { OnOk result (numbers_of self.new.tokens.items ≡ number_behind (numbers_of self.old.tokens.items) kind) }
     {
         self.tokens.push(Token { place, kind })?;
         Ok(())
@@ -202,6 +204,7 @@ impl Output {
         ensures innermost { self.new.innermost ≡ self.old.innermost }
         ensures outer { self.new.outer ≡ self.old.outer }
         ensures apart { OnOk result (IsApart self.old → IsApart self.new) }
+        ensures numbers { OnOk result (numbers_of self.new.tokens.items ≡ numbers_of self.old.tokens.items) }
     {
         match self.tokens.pop() {
             Some(last) => self.push_behind(last, place, text),
@@ -214,6 +217,7 @@ impl Output {
         ensures innermost { self.new.innermost ≡ self.old.innermost }
         ensures outer { self.new.outer ≡ self.old.outer }
         ensures apart { OnOk result (((texts : List (List ℕ)) → Apart (plain_tokens texts self.old.tokens.items ++ plain_token texts last ∷ [])) → IsApart self.new) }
+        ensures numbers { OnOk result (numbers_of self.new.tokens.items ≡ number_behind (numbers_of self.old.tokens.items) last.kind) }
     {
         let Token {
             place: before,
@@ -236,6 +240,7 @@ impl Output {
     fn dedent(&mut self, place: Place, widths: Widths) -> Result<Option<LexRefusal>, AllocError>
         ensures value { IfOk result (λ r. (texts : List (List ℕ)) (go : List meaning_lines.Widths → meaning.Outcome) → Turned r (followed texts self.new go) (followed texts self.old (λ levels. indented (back_to (plain_widths widths) levels) (plain_place place) (plain_widths widths) levels go))) }
         ensures apart { OnOk result (IsApart self.old → IsApart self.new) }
+        ensures numbers { OnOk result (numbers_of self.new.tokens.items ≡ numbers_of self.old.tokens.items) }
     {
         while self.innermost.is_other(widths) {
             match self.outer.pop() {
@@ -256,6 +261,7 @@ impl Output {
     fn indent(&mut self, place: Place, widths: Widths) -> Result<Option<LexRefusal>, AllocError>
         ensures value { IfOk result (λ r. (texts : List (List ℕ)) (go : List meaning_lines.Widths → meaning.Outcome) → Turned r (followed texts self.new go) (followed texts self.old (λ levels. indented (indented_from (plain_widths widths) levels) (plain_place place) (plain_widths widths) levels go))) }
         ensures apart { OnOk result (IsApart self.old → IsApart self.new) }
+        ensures numbers { OnOk result (numbers_of self.new.tokens.items ≡ numbers_of self.old.tokens.items) }
     {
         let top = self.innermost;
         if widths.is_same(top) {
@@ -281,6 +287,7 @@ impl Output {
     ) -> Result<Option<LexRefusal>, AllocError>
         ensures value { IfOk result (λ r. (texts : List (List ℕ)) (go : List meaning_lines.Widths → meaning.Outcome) → Turned r (followed texts self.new go) (followed texts self.old (λ levels. opened_by (plain_sofar progress) (plain_place place) levels go))) }
         ensures apart { OnOk result (IsApart self.old → IsApart self.new) }
+        ensures numbers { OnOk result (numbers_of self.new.tokens.items ≡ numbers_of self.old.tokens.items) }
     {
         match progress {
             Progress::Fresh(widths) => self.indent(place, widths),
@@ -293,6 +300,7 @@ impl Output {
     fn closed(mut self, last: Place) -> Result<Vec<Token>, AllocError>
         ensures tokens { IfOk result (λ ts. (texts : List (List ℕ)) → plain_tokens texts ts.items ≡ plain_tokens texts self.tokens.items ++ dedents (plain_place last) (length self.outer.items)) }
         ensures apart { IfOk result (λ ts. IsApart self → (texts : List (List ℕ)) → Apart (plain_tokens texts ts.items)) }
+        ensures numbers { IfOk result (λ ts. numbers_of ts.items ≡ numbers_of self.tokens.items) }
     {
         self.close(last)?;
         Ok(self.tokens)
@@ -302,6 +310,7 @@ impl Output {
     fn close(&mut self, last: Place) -> Result<(), AllocError>
         ensures tokens { OnOk result ((texts : List (List ℕ)) → plain_tokens texts self.new.tokens.items ≡ plain_tokens texts self.old.tokens.items ++ dedents (plain_place last) (length self.old.outer.items)) }
         ensures apart { OnOk result (IsApart self.old → IsApart self.new) }
+        ensures numbers { OnOk result (numbers_of self.new.tokens.items ≡ numbers_of self.old.tokens.items) }
     {
         while let Some(_level) = self.outer.pop() {
             self.push(last, TokenKind::Dedent)?;
@@ -339,6 +348,7 @@ impl Lines {
     pub fn new(alloc: Global, beginning: Place) -> Lines
         ensures value { (texts : List (List ℕ)) (end : meaning.Place) (items : List meaning_lines.Located) → ahead texts result end items ≡ merged_outcome (lines_from (Blanks meaning_lines.no_width) (meaning_lines.no_width ∷ []) (plain_place beginning) (meaning_lines.lines_of end (meaning_lines.bracketed [] items))) }
         ensures apart { IsApart result.output }
+        ensures numbers { numbers_of result.output.tokens.items ≡ [] }
     {
         Lines {
             output: Output::new(alloc),
@@ -375,6 +385,7 @@ impl Lines {
     fn line_end(&mut self, place: Place) -> Result<(), AllocError>
         ensures value { OnOk result ((texts : List (List ℕ)) (end : meaning.Place) (s : Text) (items : List meaning_lines.Located) → ahead texts self.old end (located (plain_place place) meaning_lexeme.LineEnd s ∷ items) ≡ ahead texts self.new end items) }
         ensures apart { OnOk result (IsApart self.old.output → IsApart self.new.output) }
+        ensures numbers { OnOk result (numbers_of self.new.output.tokens.items ≡ numbers_of self.old.output.tokens.items) }
     {
         if self.pending.len() > 0 {
             return Ok(());
@@ -396,6 +407,7 @@ impl Lines {
         requires { self.old.progress ≡ Progress.Begun }
         ensures value { IfOk result (λ r. (texts : List (List ℕ)) (end : meaning.Place) (s : Text) (items : List meaning_lines.Located) → is_bracket (plain_kind texts kind) ≡ false → Turned r (ahead texts self.new end items) (ahead texts self.old end (located (plain_place place) (meaning_lexeme.Word (plain_kind texts kind)) s ∷ items))) }
         ensures apart { OnOk result (((texts : List (List ℕ)) → is_text (plain_kind texts kind) ≡ false) → IsApart self.old.output → IsApart self.new.output) }
+        ensures numbers { OnOk result (numbers_of self.new.output.tokens.items ≡ number_behind (numbers_of self.old.output.tokens.items) kind) }
     {
         self.output.push(place, kind)?;
         Ok(None)
@@ -405,6 +417,7 @@ impl Lines {
         requires { self.old.progress ≡ Progress.Begun }
         ensures value { IfOk result (λ r. (texts : List (List ℕ)) (end : meaning.Place) (s : Text) (items : List meaning_lines.Located) → Turned r (ahead texts self.new end items) (ahead texts self.old end (located (plain_place place) (meaning_lexeme.Word (meaning.TText text)) s ∷ items))) }
         ensures apart { OnOk result (IsApart self.old.output → IsApart self.new.output) }
+        ensures numbers { OnOk result (numbers_of self.new.output.tokens.items ≡ numbers_of self.old.output.tokens.items) }
     {
         self.output.push_text(place, text)?;
         Ok(None)
@@ -420,6 +433,7 @@ impl Lines {
         requires bracket { operator_text operator ≡ opening_text bracket }
         ensures value { IfOk result (λ r. (texts : List (List ℕ)) (end : meaning.Place) (s : Text) (items : List meaning_lines.Located) → Turned r (ahead texts self.new end items) (ahead texts self.old end (located (plain_place place) (meaning_lexeme.Word (meaning.TOperator (operator_text operator))) s ∷ items))) }
         ensures apart { OnOk result (IsApart self.old.output → IsApart self.new.output) }
+        ensures numbers { OnOk result (numbers_of self.new.output.tokens.items ≡ numbers_of self.old.output.tokens.items) }
     {
         self.output.push(place, TokenKind::Operator(operator))?;
         self.pending.push(Open { place, bracket })?;
@@ -436,6 +450,7 @@ impl Lines {
         requires bracket { operator_text operator ≡ closing_text bracket }
         ensures value { IfOk result (λ r. (texts : List (List ℕ)) (end : meaning.Place) (s : Text) (items : List meaning_lines.Located) → Turned r (ahead texts self.new end items) (ahead texts self.old end (located (plain_place place) (meaning_lexeme.Word (meaning.TOperator (operator_text operator))) s ∷ items))) }
         ensures apart { OnOk result (IsApart self.old.output → IsApart self.new.output) }
+        ensures numbers { OnOk result (numbers_of self.new.output.tokens.items ≡ numbers_of self.old.output.tokens.items) }
     {
         match self.pending.pop() {
             None => Ok(Some(LexRefusal::UnclosedBracket(place))),
@@ -457,6 +472,7 @@ impl Lines {
         requires { self.old.progress ≡ Progress.Begun }
         ensures value { IfOk result (λ r. (texts : List (List ℕ)) (end : meaning.Place) (s : Text) (items : List meaning_lines.Located) → Turned r (ahead texts self.new end items) (ahead texts self.old end (located (plain_place place) (meaning_lexeme.Word (meaning.TOperator (operator_text operator))) s ∷ items))) }
         ensures apart { OnOk result (IsApart self.old.output → IsApart self.new.output) }
+        ensures numbers { OnOk result (numbers_of self.new.output.tokens.items ≡ numbers_of self.old.output.tokens.items) }
     {
         match side_of(operator) {
             Side::Opening(bracket) => self.opening(place, operator, bracket),
@@ -475,6 +491,7 @@ impl Lines {
         ensures value { IfOk result (λ r. (texts : List (List ℕ)) (end : meaning.Place) (s : Text) (items : List meaning_lines.Located) → Extends names.new texts → Turned r (ahead texts self.new end items) (ahead texts self.old end (located (plain_place place) (meaning_lexeme.Word (meaning.TName (string_bytes name))) s ∷ items))) }
         ensures apart { OnOk result (IsApart self.old.output → IsApart self.new.output) }
         ensures names { Extends names.old names.new }
+        ensures numbered { OnOk result (Numbers names.old self.old.output names.new self.new.output) }
     {
         match names.intern(name.as_str()) {
             Ok(number) => self.plain(place, TokenKind::Name(number)),
@@ -493,6 +510,7 @@ impl Lines {
         ensures value { IfOk result (λ r. (texts : List (List ℕ)) (end : meaning.Place) (s : Text) (items : List meaning_lines.Located) → Extends names.new texts → Turned r (ahead texts self.new end items) (ahead texts self.old end (located (plain_place place) (meaning_lexeme.Word (plain_word word)) s ∷ items))) }
         ensures apart { OnOk result (IsApart self.old.output → IsApart self.new.output) }
         ensures names { Extends names.old names.new }
+        ensures numbered { OnOk result (Numbers names.old self.old.output names.new self.new.output) }
     {
         match word {
             Word::Name(name) => self.name(place, name, names),
@@ -516,6 +534,7 @@ impl Lines {
         ensures value { IfOk result (λ r. (texts : List (List ℕ)) (end : meaning.Place) (s : Text) (items : List meaning_lines.Located) → Extends names.new texts → Turned r (ahead texts self.new end items) (ahead texts self.old end (located (plain_place place) (meaning_lexeme.Word (plain_word word)) s ∷ items))) }
         ensures apart { OnOk result (IsApart self.old.output → IsApart self.new.output) }
         ensures names { Extends names.old names.new }
+        ensures numbered { OnOk result (Numbers names.old self.old.output names.new self.new.output) }
     {
         match self.output.open_line(place, self.progress)? {
             Some(refusal) => Ok(Some(refusal)),
@@ -560,6 +579,7 @@ impl Lines {
         ensures value { IfOk result (λ r. (texts : List (List ℕ)) (end : meaning.Place) (items : List meaning_lines.Located) → Extends names.new texts → Turned r (ahead texts self.new end items) (ahead texts self.old end (located (plain_place place) (plain_lexeme lexeme) rest.now ∷ items))) }
         ensures apart { IfOk result (λ r. r ≡ None → IsApart self.old.output → IsApart self.new.output) }
         ensures names { Extends names.old names.new }
+        ensures numbered { IfOk result (λ r. r ≡ None → Numbers names.old self.old.output names.new self.new.output) }
     {
         match lexeme {
             Lexeme::Blank(c) => {
@@ -583,6 +603,7 @@ impl Lines {
     pub fn finish(mut self, end: Place) -> Result<Result<Vec<Token>, LexRefusal>, AllocError>
         ensures tokens { IfOk result (λ r. IfOk r (λ ts. IsApart self.output → (texts : List (List ℕ)) → AreTokens (ahead texts self (plain_place end) []) texts ts.items)) }
         ensures refused { IfOk result (λ r. IfErr r (λ refusal. (texts : List (List ℕ)) → IsRefused (ahead texts self (plain_place end) []) refusal)) }
+        ensures numbers { IfOk result (λ r. IfOk r (λ ts. numbers_of ts.items ≡ numbers_of self.output.tokens.items)) }
     {
         match self.pending.pop() {
             Some(open) => {

@@ -3,3 +3,4 @@ pub mod Characters
 pub mod Lexeme
 pub mod Lines
 pub mod Tokens
+pub mod Names

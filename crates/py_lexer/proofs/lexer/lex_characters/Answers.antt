@@ -1,4 +1,4 @@
-use Rattle.std.proofs.Common.{◌≡◌, ℕ, [], ◌∷◌, take, drop, take-append-drop, sym, ap, ◌∙◌, subst, arith}
+use Rattle.std.proofs.Common.{◌≡◌, ℕ, [], ◌∷◌, take, drop, take-append-drop, refl, sym, ap, ◌∙◌, subst, arith}
 use Rattle.std.proofs.lemmas.Result.{IfOk-weaker, IfErr-weaker}
 use Rattle.py_tokens.specs.Token.{place_after}
 use Rattle.py_tokens.specs.Lines.{no_width, cut, bracketed}
@@ -7,9 +7,11 @@ use Rattle.shed_base.specs.declared.place.Place.{Place}
 use Rattle.py_lexer.specs.PlainTokens.{plain_place, plain_width}
 use Rattle.py_lexer.specs.Reading.{IsRefused}
 use Rattle.py_lexer.specs.Wanted.{ahead}
+use Rattle.py_lexer.specs.Numbering.{AreNumbered}
 use Rattle.py_lexer.proofs.AheadLemmas.{all_lines-from, place_after-append}
 use Rattle.py_lexer.proofs.OutputLemmas.{empty}
 use Rattle.py_lexer.proofs.NamesLemmas.{extends-same, extends-further, from_ok, from_err}
+use Rattle.py_lexer.proofs.NumberingLemmas.{numbered-names, numbered-held}
 use Rattle.py_lexer.proofs.lexer.lex_characters.Goals as goal
 
 pub loop-rest-init : goal.loop-rest-init
@@ -21,6 +23,7 @@ loop-rest-init c =
       value = λ texts extends. c.new-lines.ensures.value texts (place_after p z) items ∙ ap merged_outcome (sym (all_lines-from (no_width ∷ []) p (place_after p z) (bracketed [] items)));
       apart = c.new-lines.ensures.apart;
       names = extends-same c.args.names.now;
+      numbered = subst (AreNumbered c.args.names.now c.args.names.now) (sym c.new-lines.ensures.numbers) (tt, refl);
     }
 
 pub returns-in-Err-clause-refused : goal.returns-in-Err-clause-refused
@@ -44,6 +47,7 @@ loop-rest-preserved c =
     let goes_on = from_ok r x _ c.in-Ok.is c.in_ok-refusal.ensures.goes_on in
     let place = from_ok r x _ c.in-Ok.is c.in_ok-refusal.ensures.place in
     let apart = from_ok r x _ c.in-Ok.is c.in_ok-refusal.ensures.apart in
+    let numbered = from_ok r x _ c.in-Ok.is c.in_ok-refusal.ensures.numbered in
     let end : place_after q (drop n z) ≡ place_after p z = ap (λ a. place_after a (drop n z)) place ∙ sym (place_after-append p (take n z) (drop n z)) ∙ ap (place_after p) (take-append-drop n z) in
     record {
       value = λ texts extends.
@@ -53,6 +57,7 @@ loop-rest-preserved c =
           ∙ l.invariant.value texts (extends-further l.names c.step.new.names texts more extends);
       apart = apart l.invariant.apart;
       names = extends-further c.args.names.now l.names c.step.new.names l.invariant.names more;
+      numbered = numbered c.args.names.now l.invariant.numbered;
     }
 
 pub returns-clause-tokens : goal.returns-clause-tokens
@@ -76,3 +81,13 @@ returns-clause-refused c =
     (λ r h. IfErr-weaker r _ _
     (λ refusal g. subst (λ o. IsRefused o refusal) (sym (ap (λ y. ahead l.names l.lines (place_after p y) (cut w p 0 y)) none) ∙ l.invariant.value l.names (extends-same l.names)) (g l.names)) h)
     c.finish.ensures.refused
+
+pub returns-clause-numbered : goal.returns-clause-numbered
+returns-clause-numbered c =
+    let l = c.loop-rest in
+    IfOk-weaker c.finish.result _ _ (λ r h. IfOk-weaker r _ _ (λ ts e. numbered-names c.args.names.now l.names ts.items l.lines.output.tokens.items e l.invariant.numbered) h) c.finish.ensures.numbers
+
+pub returns-clause-held : goal.returns-clause-held
+returns-clause-held c =
+    let l = c.loop-rest in
+    IfOk-weaker c.finish.result _ _ (λ r h. IfOk-weaker r _ _ (λ ts e. numbered-held c.args.names.now l.names ts.items l.lines.output.tokens.items e l.invariant.numbered) h) c.finish.ensures.numbers

@@ -17,4 +17,5 @@ loop-level-preserved c =
           ∙ dedents-one (plain_tokens texts s.tokens.items) (plain_tokens texts back.tokens.items) p s.outer.items c.pop.new.self.items c.in-Some._level (pushed.tokens texts) c.in-Some.ensures.items
           ∙ c.loop-level.invariant.tokens texts;
       apart = λ a texts. apart-pushed (plain_tokens texts s.tokens.items) (plain_tokens texts back.tokens.items) p TDedent (pushed.tokens texts) refl (c.loop-level.invariant.apart a texts);
+      numbers = pushed.numbers ∙ c.loop-level.invariant.numbers;
     }

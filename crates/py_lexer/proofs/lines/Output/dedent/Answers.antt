@@ -38,6 +38,7 @@ loop-self-preserved c =
           ∙ follows-pushed (plain_tokens texts s.tokens.items) (plain_tokens texts back.tokens.items) (token p TDedent) (pushed.tokens texts) (indented (back_to w old) p w old go)
           ∙ ap (λ lv. merged_outcome (preceded (plain_tokens texts back.tokens.items) (indented (back_to w lv) p w lv go))) gone;
       apart = λ a texts. apart-pushed (plain_tokens texts s.tokens.items) (plain_tokens texts back.tokens.items) p TDedent (pushed.tokens texts) refl (c.loop-self.invariant.apart a texts);
+      numbers = pushed.numbers ∙ c.loop-self.invariant.numbers;
     }
 
 pub returns-then-not-is_same-clause-value : goal.returns-then-not-is_same-clause-value

@@ -51,4 +51,5 @@ returns-in_ok-push-in_default c =
           subst Apart (sym (tokens texts ∙ ap (λ ts. ts ++ token q (TText c.args.text) ∷ []) (first.tokens texts)))
           (apart-behind front p q (plain_kind texts c.args.last.kind) (TText c.args.text) (no_text_kind texts c.args.last.kind c.in_default.not-Text) (a texts)))
           second.tokens;
+      numbers = on_ok_weaker c.push-in_default-2.result (λ numbers. numbers ∙ first.numbers) second.numbers;
     }

@@ -1,0 +1,85 @@
+//! Whether tokens are a module, and how high its tree is.
+
+ghost use Rattle.std.specs.Prelude.{ℕ, ◌≡◌, ◌≤◌, List, [], ◌∷◌, IfOk, IfErr};
+ghost use Rattle.py_lexer.specs.PlainTokens.{plain_place, plain_kind, plain_tokens as text_tokens};
+ghost use Rattle.py_recogniser.specs.PlainTokens.{plain_tokens};
+ghost use Rattle.py_recogniser.specs.Recognised.{IsRecognised};
+ghost use Rattle.py_recogniser.specs.Refused.{last_place, IsFound, IsParseRefused};
+
+use crate::measuring::{Measured, measure};
+use crate::refusal::{Construct, Found, ParseRefusal};
+use py_lexer::token::{Token, TokenKind};
+use shed_base::{Names, Place};
+use sqlite_items::Items;
+use std::alloc::{AllocError, Global};
+
+/// The most nodes on a path of a tree: a node may have 100 others above it.
+const MOST_NODES: u32 = 101;
+
+/// Where a module begins.
+const BEGINNING: Place = Place {
+    module: 0,
+    line: 1,
+    column: 1,
+};
+
+fn copied(alloc: Global, kind: &TokenKind) -> Result<TokenKind, AllocError>
+    ensures { IfOk result (λ k. (names : List (List ℕ)) → plain_kind names k ≡ plain_kind names kind.now) }
+{
+    let kind = match kind {
+        TokenKind::Name(name) => TokenKind::Name(*name),
+        TokenKind::Keyword(keyword) => TokenKind::Keyword(*keyword),
+        TokenKind::Operator(operator) => TokenKind::Operator(*operator),
+        TokenKind::Number(value) => TokenKind::Number(*value),
+        TokenKind::Text(text) => TokenKind::Text(Items::from_slice(alloc, text.as_slice())?),
+        TokenKind::Float => TokenKind::Float,
+        TokenKind::Imaginary => TokenKind::Imaginary,
+        TokenKind::Bytes => TokenKind::Bytes,
+        TokenKind::Formatted => TokenKind::Formatted,
+        TokenKind::Newline => TokenKind::Newline,
+        TokenKind::Indent => TokenKind::Indent,
+        TokenKind::Dedent => TokenKind::Dedent,
+    };
+    Ok(kind)
+}
+
+#[tactic(auto, using(crate::proofs::FrontsFound::lasts))]
+fn place_of_last(tokens: &[Token]) -> Place
+    ensures { (names : List (List ℕ)) → plain_place result ≡ last_place (text_tokens names tokens.now) }
+{
+    match tokens.split_last() {
+        Some((token, _)) => token.place,
+        None => BEGINNING,
+    }
+}
+
+/// What stands at the front of the rest of some tokens, and where.
+fn found(alloc: Global, tokens: &[Token], rest: &[Token]) -> Result<(Place, Found), AllocError>
+    ensures { IfOk result (λ f. (names : List (List ℕ)) → IsFound names (text_tokens names tokens.now) f.0 f.1 (text_tokens names rest.now)) }
+{
+    match rest.first() {
+        Some(token) => Ok((token.place, Found::Token(copied(alloc, &token.kind)?))),
+        None => Ok((place_of_last(tokens), Found::End)),
+    }
+}
+
+/// The height of the tree of a module's tokens, in nodes; names among the tokens stand for the texts of `names`.
+///
+/// Fails with the first token with which no front of a module goes on; where a node of the tree has more than 100 others
+/// above it; and with `NoMemory` where memory runs out. The Python reference's "Full Grammar specification", cut to the
+/// profile, is the grammar.
+pub fn recognise(alloc: Global, tokens: &[Token], names: &Names) -> Result<u32, ParseRefusal>
+    ensures recognised { IfOk result (IsRecognised (plain_tokens names.now tokens.now)) }
+    ensures refused { IfErr result (IsParseRefused names.now tokens.now) }
+{
+    match measure(alloc, tokens, names)? {
+        Measured::Stuck(rest) => {
+            let (place, found) = found(alloc, tokens, rest)?;
+            Err(ParseRefusal::Unexpected(place, found))
+        }
+        Measured::Height(height) if height > MOST_NODES => {
+            Err(ParseRefusal::Outside(BEGINNING, Construct::Unbuilt))
+        }
+        Measured::Height(height) => Ok(height),
+    }
+}

@@ -1,0 +1,46 @@
+//! Why tokens are not the tree of a module.
+
+ghost use Rattle.std.specs.Prelude.{◌≡◌};
+ghost use Rattle.py_recogniser.specs.declared.refusal.ParseRefusal.TheVariants.{NoMemory};
+
+use py_lexer::token::TokenKind;
+use shed_base::Place;
+use std::alloc::AllocError;
+use thiserror::Error;
+
+/// What stands where no front of a module goes on.
+#[derive(Debug, Drop)]
+pub enum Found {
+    Token(TokenKind),
+    /// The end: no token comes.
+    End,
+}
+
+/// A construct that no module has.
+#[derive(Clone, Copy, Debug, PartialEq, Eq)]
+pub enum Construct {
+    /// It isn't built yet.
+    Unbuilt,
+}
+
+/// Why tokens have no tree that is kept, or that memory ran out.
+#[derive(Debug, Drop, Error)]
+pub enum ParseRefusal {
+    /// The first token with which no front of a module goes on. The end has the place of the last token.
+    #[error("unexpected token")]
+    Unexpected(Place, Found),
+    /// A construct that no module has. A tree in which a node has more than 100 others above it isn't built, which is
+    /// told at the beginning.
+    #[error("construct outside the language")]
+    Outside(Place, Construct),
+    #[error("out of memory")]
+    NoMemory,
+}
+
+impl From<AllocError> for ParseRefusal {
+    ghost from_gives = { λ _ e. e ≡ NoMemory };
+
+    fn from(_error: AllocError) -> ParseRefusal {
+        ParseRefusal::NoMemory
+    }
+}
