@@ -2,13 +2,13 @@
 use Rattle.std.proofs.Common.{◌≡◌, ℕ, zero, suc, ◌<◌, List, [], ◌∷◌, ◌++◌, length, get_or, slice_get, Some, Bool, true, false, if◌then◌else◌, refl, sym, ap, ap₂, ◌∙◌, subst, arith}
 use Rattle.std.proofs.lemmas.List.{map-append, length-append}
 use Rattle.py_tokens.specs.Names.{name_before, names_in}
-use Rattle.shed_base.specs.Names.{has_text, with_text}
+use Rattle.shed_base.specs.Names.{has_text, with_text, with_texts}
 use Rattle.py_lexer.specs.declared.token.TokenKind.{TokenKind}
 use Rattle.py_lexer.specs.declared.token.TokenKind.TheVariants as kind
 use Rattle.py_lexer.specs.declared.token.Token.{Token}
 use Rattle.py_lexer.specs.PlainTokens.{plain_kind, plain_tokens}
 use Rattle.py_lexer.specs.Reading.{Extends, IsHeld, AreHeld}
-use Rattle.py_lexer.specs.Numbering.{with_texts, number_before, numbers_of, number_behind, ArePlaces, texts_at, AreNumbered}
+use Rattle.py_lexer.specs.Numbering.{number_before, numbers_of, number_behind, ArePlaces, texts_at, AreNumbered}
 use Rattle.py_lexer.proofs.StepLemmas.{name-text}
 use Rattle.py_lexer.proofs.NamesLemmas.{extends-same}
 

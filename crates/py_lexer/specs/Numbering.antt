@@ -1,15 +1,10 @@
 -- The numbers of names among tokens: names are numbered in the order in which their texts come.
 use Rattle.std.specs.Prelude.{◌≡◌, ℕ, ◌<◌, List, [], ◌∷◌, ◌++◌, length, map, get_or}
-use Rattle.shed_base.specs.Names.{with_text}
+use Rattle.shed_base.specs.Names.{with_texts}
 use Rattle.py_lexer.specs.declared.token.TokenKind.{TokenKind}
 use Rattle.py_lexer.specs.declared.token.TokenKind.TheVariants as kind
 use Rattle.py_lexer.specs.declared.token.Token.{Token}
 use Rattle.py_lexer.specs.declared.lines.Output.{Output}
-
--- one text after another comes last, unless it is there
-abbrev pub with_texts : List (List ℕ) → List (List ℕ) → List (List ℕ)
-with_texts texts [] = texts
-with_texts texts (text ∷ more) = with_texts (with_text texts text) more
 
 abbrev pub number_before : TokenKind → List ℕ → List ℕ
 number_before (kind.Name name) numbers = name.0 ∷ numbers

@@ -15,6 +15,11 @@ has_text texts text = list_any (bytes_eq text) texts
 abbrev pub with_text : List (List ℕ) → List ℕ → List (List ℕ)
 with_text texts text = if has_text texts text then texts else texts ++ text ∷ []
 
+-- one text after another comes last, unless it is there
+abbrev pub with_texts : List (List ℕ) → List (List ℕ) → List (List ℕ)
+with_texts texts [] = texts
+with_texts texts (text ∷ more) = with_texts (with_text texts text) more
+
 -- no text stands at two places
 abbrev pub AreDistinct : List (List ℕ) → Type 0
 AreDistinct texts = IsDistinct bytes_eq texts
