@@ -7,6 +7,7 @@ use Rattle.std.specs.String.{string_eq}
 use Rattle.std.proofs.lemmas.Bool.{cases_lt}
 use Rattle.std.proofs.lemmas.Cmp.{nat_list_eq_equiv}
 use Rattle.std.proofs.Math.ListN.{get_or-map}
+use Rattle.std.proofs.lemmas.List.{map-append}
 use Rattle.std.proofs.lemmas.List.Quantifiers.{position-Some}
 use Rattle.std.proofs.lemmas.Map.Keys.{IsDistinct-push, apart_from_distinct}
 use Rattle.std.proofs.lemmas.Option.{slice_get-get_or, slice_get-map, slice_get_within, get_or_from_slice_get}
@@ -17,10 +18,6 @@ use Rattle.shed_base.specs.Names.{special_texts, has_text, with_text, AreDistinc
 pub any_is_has : {Y : Type 0} (keys : List (String Y)) (x : List ℕ) → list_any (λ k. bytes_eq x (string_bytes k)) keys ≡ has_text (map string_bytes keys) x
 any_is_has [] x = refl
 any_is_has (k ∷ keys) x = ap (λ b. bytes_eq x (string_bytes k) || b) (any_is_has keys x)
-
-map_last : {A B : Type 0} (f : A → B) (xs : List A) (x : A) → map f (xs ++ x ∷ []) ≡ map f xs ++ f x ∷ []
-map_last f [] x = refl
-map_last f (y ∷ xs) x = ap (λ ys. f y ∷ ys) (map_last f xs x)
 
 -- a text that is found leaves the texts
 pub kept : {Y : Type 0} (keys : List (String Y)) (x : List ℕ) → list_any (λ k. bytes_eq x (string_bytes k)) keys ≡ true → map string_bytes keys ≡ with_text (map string_bytes keys) x
@@ -33,7 +30,7 @@ added old new k x is absent e =
     let lacks : list_any (string_eq k) old ≡ false = ap (λ y. list_any (λ j. bytes_eq y (string_bytes j)) old) is ∙ absent in
     ap (λ ks. map string_bytes ks) e
     ∙ ap (λ b. map string_bytes (if b then old else old ++ k ∷ [])) lacks
-    ∙ map_last string_bytes old k
+    ∙ map-append string_bytes old (k ∷ [])
     ∙ ap (λ y. map string_bytes old ++ y ∷ []) is
 
 pub last_is_with : {Y : Type 0} (old : List (String Y)) (x : List ℕ) → list_any (λ j. bytes_eq x (string_bytes j)) old ≡ false → map string_bytes old ++ x ∷ [] ≡ with_text (map string_bytes old) x
