@@ -1,9 +1,10 @@
 -- Blocks that grow at their ends.
-use Rattle.std.proofs.Common.{◌≡◌, ℕ, suc, ◌+◌, ◌<◌, ◌≤◌, List, [], ◌∷◌, ◌++◌, length, drop, get_or, refl, sym, ap, ◌∙◌, add-one, drop-cons}
+use Rattle.std.proofs.Common.{◌≡◌, ℕ, ◌+◌, ◌<◌, ◌≤◌, List, [], ◌∷◌, ◌++◌, length, drop, get_or, refl, sym, ap, ◌∙◌}
 use Rattle.std.proofs.Math.ListN.{drop_of_length-le}
 use Rattle.py_meaning.specs.Tree.{Stmt as SourceStmt, SAssign, SPrint, SIf, SWhile}
-use Rattle.py_parser.specs.declared.tree.Stmt.{Stmt}
-use Rattle.py_parser.specs.PlainTrees.{plain_stmt as plain_statement, plain_body}
+use Rattle.py_built.specs.declared.tree.Stmt.{Stmt}
+use Rattle.py_built.specs.PlainTrees.{plain_stmt as plain_statement, plain_body}
+use Rattle.py_built.proofs.UnbuiltSteps.{drop_at}
 use Rattle.cpp_meaning.specs.Tree.{Block, none, more}
 use Rattle.cpp_ast.specs.declared.tree.CppStmt.{CppStmt}
 use Rattle.cpp_ast.specs.Plain.{plain_stmt, plain_block}
@@ -30,10 +31,6 @@ emit_stmt-followed (SAssign p x e) rest = refl
 emit_stmt-followed (SPrint p c e) rest = refl
 emit_stmt-followed (SIf p c body other) rest = refl
 emit_stmt-followed (SWhile p c body) rest = refl
-
--- the statement that the loop is at, and those after it
-pub drop_at : {A : Type 0} (items : List A) (i : ℕ) (x : A) → i < length items → x ≡ get_or items i x → drop i items ≡ x ∷ drop (i + 1) items
-drop_at items i x within is = rw (add-one, drop-cons items i x within) (ap (λ y. y ∷ drop (suc i) items) (sym is))
 
 pub block_step : (b b' all : Block) (items : List Stmt) (i : ℕ) (s : Stmt) → i < length items → s ≡ get_or items i s → b' ≡ followed_by b (statements_of (plain_statement s)) → followed_by b (emit_body (plain_body (drop i items))) ≡ all → followed_by b' (emit_body (plain_body (drop (i + 1) items))) ≡ all
 block_step b b' all items i s within is e h =

@@ -1,10 +1,8 @@
 -- What is stated of each small program in the files ProgramVectorsPlain and ProgramVectorsBlocks: which tree its text is,
 -- what its runs and the runs of its C++ come to, and the whole text of each file that is written for it.
-use Rattle.std.proofs.Common.{◌≡◌, ℕ, zero, suc, List, [], ◌∷◌, ◌++◌, Option, Some, None, codes}
+use Rattle.std.proofs.Common.{◌≡◌, ℕ, zero, suc, List, [], ◌∷◌, ◌++◌, codes}
 use Rattle.runs.specs.Run.{Ending, Gives, ComesTo}
 use Rattle.py_meaning.specs.Name.{Name}
-use Rattle.py_meaning.specs.Token.{Token}
-use Rattle.py_meaning.specs.Lexer.{tokens_of}
 use Rattle.py_meaning.specs.Tree.{Body}
 use Rattle.py_meaning.specs.Program.{Program as Source}
 use Rattle.py_meaning.specs.Machine.{machine as source_machine, start as source_start}
@@ -62,12 +60,3 @@ pub record Shown (name : Name) (text : List ℕ) (body : Body) (outcomes : List 
   pub is_source : IsSource text body
   pub runs : BothHave (program name body) (emit name body) outcomes
   pub files : written (program name body) (emit name body) ≡ files_with name texts
-
--- ---- for the proofs: the tokens of a text, if it has any
-
-abbrev pub found : Option (List Token) → List Token
-found None = []
-found (Some ts) = ts
-
-abbrev pub tokens_in : List ℕ → List Token
-tokens_in text = found (tokens_of text)

@@ -1,15 +1,13 @@
 -- Small programs with branches and loops: what their texts mean, what their runs come to with few ticks and with enough, and
 -- what is written for them. A tick is due each time that a loop is about to test.
-use Rattle.std.proofs.Common.{◌≡◌, ℕ, List, [], ◌∷◌, ◌++◌, refl, codes, lit≤}
+use Rattle.std.proofs.Common.{ℕ, List, [], ◌∷◌, ◌++◌, refl, codes, lit≤}
 use Rattle.std.specs.Int.{int_wrap}
 use Rattle.std.specs.Fmt.{digits}
 use Rattle.runs.specs.FiniteMap.{put}
 use Rattle.runs.specs.Run.{Done, GoingOn}
-use Rattle.py_meaning.specs.Lexer.{place, tokens_of}
 use Rattle.py_meaning.specs.Tree.{Add, Subtract, LessThan, AtMost, GreaterThan, AtLeast, EqualTo, NotEqualTo, EName, ENumber, EBinary, CCompare, SAssign, SPrint, SIf, SWhile, Body, none, more}
-use Rattle.py_meaning.specs.Table.{finished}
-use Rattle.py_meaning.proofs.TableLaws.{run_builds_tree}
-use Rattle.cpp_emit.proofs.ProgramVectors.{With, WithAtLeast, Shown, tokens_in}
+use Rattle.py_meaning.proofs.SourceVectors.{at as place, source}
+use Rattle.cpp_emit.proofs.ProgramVectors.{With, WithAtLeast, Shown}
 
 -- a branch whose test holds, with no `else`
 abbrev taken_text : List ℕ
@@ -68,10 +66,10 @@ taken :
           ++ codes "group G0 T0\n"
           ++ codes "global main.x int {int}\n";
     })
-unfolding tokens_of put int_wrap digits
+unfolding lib.Utf8.encode put int_wrap digits
 taken =
     record {
-      is_source = record { tokens = tokens_in taken_text; lexed = refl; spelt = (run_builds_tree 400 (tokens_in taken_text) (finished taken_tree) refl).1; shallow = (lit≤ tt, (((lit≤ tt, lit≤ tt), (lit≤ tt, tt), tt), (lit≤ tt, tt))); sure = refl };
+      is_source = source 4000 taken_text taken_tree refl refl refl (lit≤ tt) refl refl;
       runs = (λ input k. ((60, refl), (60, refl)), tt);
       files = refl;
     }
@@ -142,10 +140,10 @@ taken_otherwise :
           ++ codes "group G0 T0\n"
           ++ codes "global main.x int {int}\n";
     })
-unfolding tokens_of put int_wrap digits
+unfolding lib.Utf8.encode put int_wrap digits
 taken_otherwise =
     record {
-      is_source = record { tokens = tokens_in taken_otherwise_text; lexed = refl; spelt = (run_builds_tree 400 (tokens_in taken_otherwise_text) (finished taken_otherwise_tree) refl).1; shallow = (lit≤ tt, (((lit≤ tt, lit≤ tt), (lit≤ tt, tt), (lit≤ tt, (lit≤ tt, tt))), (lit≤ tt, tt))); sure = refl };
+      is_source = source 4000 taken_otherwise_text taken_otherwise_tree refl refl refl (lit≤ tt) refl refl;
       runs = (λ input k. ((60, refl), (60, refl)), tt);
       files = refl;
     }
@@ -221,10 +219,10 @@ bound_within :
           ++ codes "global main.a int {int}\n"
           ++ codes "global main.c int {int}\n";
     })
-unfolding tokens_of put int_wrap digits
+unfolding lib.Utf8.encode put int_wrap digits
 bound_within =
     record {
-      is_source = record { tokens = tokens_in bound_within_text; lexed = refl; spelt = (run_builds_tree 400 (tokens_in bound_within_text) (finished bound_within_tree) refl).1; shallow = (lit≤ tt, (((lit≤ tt, lit≤ tt), (lit≤ tt, tt), (lit≤ tt, tt)), (lit≤ tt, (lit≤ tt, tt)))); sure = refl };
+      is_source = source 4000 bound_within_text bound_within_tree refl refl refl (lit≤ tt) refl refl;
       runs = (λ input k. ((60, refl), (60, refl)), tt);
       files = refl;
     }
@@ -288,10 +286,10 @@ countdown :
           ++ codes "group G0 T0\n"
           ++ codes "global main.x int {int}\n";
     })
-unfolding tokens_of put int_wrap digits
+unfolding lib.Utf8.encode put int_wrap digits
 countdown =
     record {
-      is_source = record { tokens = tokens_in countdown_text; lexed = refl; spelt = (run_builds_tree 400 (tokens_in countdown_text) (finished countdown_tree) refl).1; shallow = (lit≤ tt, (((lit≤ tt, lit≤ tt), (lit≤ tt, ((lit≤ tt, lit≤ tt), tt))), (lit≤ tt, tt))); sure = refl };
+      is_source = source 4000 countdown_text countdown_tree refl refl refl (lit≤ tt) refl refl;
       runs = (λ input. ((80, refl), (80, refl)), (λ input. ((80, refl), (80, refl)), (λ input. ((80, refl), (80, refl)), (λ input k. ((80, refl), (80, refl)), tt))));
       files = refl;
     }
@@ -344,10 +342,10 @@ silent :
           ++ codes "group G0 T0\n"
           ++ codes "global main.x int {int}\n";
     })
-unfolding tokens_of put int_wrap digits
+unfolding lib.Utf8.encode put int_wrap digits
 silent =
     record {
-      is_source = record { tokens = tokens_in silent_text; lexed = refl; spelt = (run_builds_tree 400 (tokens_in silent_text) (finished silent_tree) refl).1; shallow = (lit≤ tt, (((lit≤ tt, lit≤ tt), ((lit≤ tt, lit≤ tt), tt)), tt)); sure = refl };
+      is_source = source 4000 silent_text silent_tree refl refl refl (lit≤ tt) refl refl;
       runs = (λ input. ((80, refl), (80, refl)), (λ input k. ((80, refl), (80, refl)), tt));
       files = refl;
     }
@@ -427,10 +425,10 @@ loop_in_loop :
           ++ codes "global main.x int {int}\n"
           ++ codes "global main.y int {int}\n";
     })
-unfolding tokens_of put int_wrap digits
+unfolding lib.Utf8.encode put int_wrap digits
 loop_in_loop =
     record {
-      is_source = record { tokens = tokens_in loop_in_loop_text; lexed = refl; spelt = (run_builds_tree 400 (tokens_in loop_in_loop_text) (finished loop_in_loop_tree) refl).1; shallow = (lit≤ tt, (lit≤ tt, (((lit≤ tt, lit≤ tt), (lit≤ tt, (((lit≤ tt, lit≤ tt), (((lit≤ tt, lit≤ tt), (lit≤ tt, tt), tt), ((lit≤ tt, lit≤ tt), tt))), ((lit≤ tt, lit≤ tt), tt)))), tt))); sure = refl };
+      is_source = source 4000 loop_in_loop_text loop_in_loop_tree refl refl refl (lit≤ tt) refl refl;
       runs = (λ input. ((200, refl), (200, refl)), (λ input. ((200, refl), (200, refl)), (λ input. ((200, refl), (200, refl)), (λ input k. ((200, refl), (200, refl)), tt))));
       files = refl;
     }
@@ -480,10 +478,10 @@ endless :
           ++ codes "family F0\n"
           ++ codes "group G0 T0\n";
     })
-unfolding tokens_of put int_wrap digits
+unfolding lib.Utf8.encode put int_wrap digits
 endless =
     record {
-      is_source = record { tokens = tokens_in endless_text; lexed = refl; spelt = (run_builds_tree 400 (tokens_in endless_text) (finished endless_tree) refl).1; shallow = (((lit≤ tt, lit≤ tt), (lit≤ tt, tt)), tt); sure = refl };
+      is_source = source 4000 endless_text endless_tree refl refl refl (lit≤ tt) refl refl;
       runs = (λ input. ((80, refl), (80, refl)), (λ input. ((80, refl), (80, refl)), (λ input. ((80, refl), (80, refl)), tt)));
       files = refl;
     }

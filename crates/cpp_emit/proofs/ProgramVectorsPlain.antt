@@ -1,14 +1,12 @@
 -- Small programs without blocks: what their texts mean, what their runs come to, and what is written for them.
-use Rattle.std.proofs.Common.{◌≡◌, ℕ, List, [], ◌∷◌, ◌++◌, refl, codes, lit≤}
+use Rattle.std.proofs.Common.{ℕ, List, [], ◌∷◌, ◌++◌, refl, codes, lit≤}
 use Rattle.std.specs.Int.{int_wrap}
 use Rattle.std.specs.Fmt.{digits}
 use Rattle.runs.specs.FiniteMap.{put}
 use Rattle.runs.specs.Run.{Done}
-use Rattle.py_meaning.specs.Lexer.{place, tokens_of}
 use Rattle.py_meaning.specs.Tree.{Negative, Add, Subtract, Multiply, EName, ENumber, EUnary, EBinary, SAssign, SPrint, Body, none, more}
-use Rattle.py_meaning.specs.Table.{finished}
-use Rattle.py_meaning.proofs.TableLaws.{run_builds_tree}
-use Rattle.cpp_emit.proofs.ProgramVectors.{WithAtLeast, Shown, tokens_in}
+use Rattle.py_meaning.proofs.SourceVectors.{at as place, source}
+use Rattle.cpp_emit.proofs.ProgramVectors.{WithAtLeast, Shown}
 
 -- the empty module: nothing is printed, so nothing is declared
 abbrev nothing_text : List ℕ
@@ -45,10 +43,10 @@ nothing :
           ++ codes "family F0\n"
           ++ codes "group G0 T0\n";
     })
-unfolding tokens_of put int_wrap digits
+unfolding lib.Utf8.encode put int_wrap digits
 nothing =
     record {
-      is_source = record { tokens = tokens_in nothing_text; lexed = refl; spelt = (run_builds_tree 400 (tokens_in nothing_text) (finished nothing_tree) refl).1; shallow = tt; sure = refl };
+      is_source = source 4000 nothing_text nothing_tree refl refl refl (lit≤ tt) refl refl;
       runs = (λ input k. ((5, refl), (5, refl)), tt);
       files = refl;
     }
@@ -92,10 +90,10 @@ one_print :
           ++ codes "family F0\n"
           ++ codes "group G0 T0\n";
     })
-unfolding tokens_of put int_wrap digits
+unfolding lib.Utf8.encode put int_wrap digits
 one_print =
     record {
-      is_source = record { tokens = tokens_in one_print_text; lexed = refl; spelt = (run_builds_tree 400 (tokens_in one_print_text) (finished one_print_tree) refl).1; shallow = (lit≤ tt, tt); sure = refl };
+      is_source = source 4000 one_print_text one_print_tree refl refl refl (lit≤ tt) refl refl;
       runs = (λ input k. ((20, refl), (20, refl)), tt);
       files = refl;
     }
@@ -141,10 +139,10 @@ two_lines :
           ++ codes "family F0\n"
           ++ codes "group G0 T0\n";
     })
-unfolding tokens_of put int_wrap digits
+unfolding lib.Utf8.encode put int_wrap digits
 two_lines =
     record {
-      is_source = record { tokens = tokens_in two_lines_text; lexed = refl; spelt = (run_builds_tree 400 (tokens_in two_lines_text) (finished two_lines_tree) refl).1; shallow = ((lit≤ tt, lit≤ tt), tt); sure = refl };
+      is_source = source 4000 two_lines_text two_lines_tree refl refl refl (lit≤ tt) refl refl;
       runs = (λ input k. ((20, refl), (20, refl)), tt);
       files = refl;
     }
@@ -206,10 +204,10 @@ wrapping :
           ++ codes "group G0 T0\n"
           ++ codes "global main.x int {int}\n";
     })
-unfolding tokens_of put int_wrap digits
+unfolding lib.Utf8.encode put int_wrap digits
 wrapping =
     record {
-      is_source = record { tokens = tokens_in wrapping_text; lexed = refl; spelt = (run_builds_tree 400 (tokens_in wrapping_text) (finished wrapping_tree) refl).1; shallow = ((lit≤ tt, lit≤ tt), ((lit≤ tt, lit≤ tt), ((lit≤ tt, lit≤ tt), (lit≤ tt, tt)))); sure = refl };
+      is_source = source 4000 wrapping_text wrapping_tree refl refl refl (lit≤ tt) refl refl;
       runs = (λ input k. ((60, refl), (60, refl)), tt);
       files = refl;
     }
@@ -265,10 +263,10 @@ nesting :
           ++ codes "family F0\n"
           ++ codes "group G0 T0\n";
     })
-unfolding tokens_of put int_wrap digits
+unfolding lib.Utf8.encode put int_wrap digits
 nesting =
     record {
-      is_source = record { tokens = tokens_in nesting_text; lexed = refl; spelt = (run_builds_tree 400 (tokens_in nesting_text) (finished nesting_tree) refl).1; shallow = (((lit≤ tt, lit≤ tt), lit≤ tt), (((lit≤ tt, (lit≤ tt, lit≤ tt)), lit≤ tt), ((lit≤ tt, lit≤ tt), tt))); sure = refl };
+      is_source = source 4000 nesting_text nesting_tree refl refl refl (lit≤ tt) refl refl;
       runs = (λ input k. ((60, refl), (60, refl)), tt);
       files = refl;
     }
@@ -338,10 +336,10 @@ escaped_names :
           ++ codes "global main.aZ_ int {int}\n"
           ++ codes "global main.Z__y int {int}\n";
     })
-unfolding tokens_of put int_wrap digits
+unfolding lib.Utf8.encode put int_wrap digits
 escaped_names =
     record {
-      is_source = record { tokens = tokens_in escaped_names_text; lexed = refl; spelt = (run_builds_tree 400 (tokens_in escaped_names_text) (finished escaped_names_tree) refl).1; shallow = (lit≤ tt, (lit≤ tt, ((lit≤ tt, lit≤ tt), ((lit≤ tt, lit≤ tt), (lit≤ tt, tt))))); sure = refl };
+      is_source = source 4000 escaped_names_text escaped_names_tree refl refl refl (lit≤ tt) refl refl;
       runs = (λ input k. ((60, refl), (60, refl)), tt);
       files = refl;
     }
@@ -407,10 +405,10 @@ bound_again :
           ++ codes "global main.x int {int}\n"
           ++ codes "global main.y int {int}\n";
     })
-unfolding tokens_of put int_wrap digits
+unfolding lib.Utf8.encode put int_wrap digits
 bound_again =
     record {
-      is_source = record { tokens = tokens_in bound_again_text; lexed = refl; spelt = (run_builds_tree 400 (tokens_in bound_again_text) (finished bound_again_tree) refl).1; shallow = (lit≤ tt, (lit≤ tt, (lit≤ tt, (lit≤ tt, (lit≤ tt, tt))))); sure = refl };
+      is_source = source 4000 bound_again_text bound_again_tree refl refl refl (lit≤ tt) refl refl;
       runs = (λ input k. ((60, refl), (60, refl)), tt);
       files = refl;
     }
@@ -462,10 +460,10 @@ other_module :
           ++ codes "group G0 T0\n"
           ++ codes "global _Z__m.n int {int}\n";
     })
-unfolding tokens_of put int_wrap digits
+unfolding lib.Utf8.encode put int_wrap digits
 other_module =
     record {
-      is_source = record { tokens = tokens_in other_module_text; lexed = refl; spelt = (run_builds_tree 400 (tokens_in other_module_text) (finished other_module_tree) refl).1; shallow = (lit≤ tt, ((lit≤ tt, lit≤ tt), tt)); sure = refl };
+      is_source = source 4000 other_module_text other_module_tree refl refl refl (lit≤ tt) refl refl;
       runs = (λ input k. ((40, refl), (40, refl)), tt);
       files = refl;
     }

@@ -9,7 +9,7 @@ use Rattle.runs.specs.FiniteMap.{Map, nothing, put}
 use Rattle.runs.proofs.FiniteMaps.{put_same, put_other}
 use Rattle.runs.proofs.Simulation.{Leads, leads_stay, leads_on, leads_step, waits, ticks_on}
 use Rattle.py_meaning.specs.Name.{Name, same_name}
-use Rattle.py_meaning.specs.Token.{Place}
+use Rattle.py_tokens.specs.Token.{Place}
 use Rattle.py_meaning.specs.Tree.{Expr, Condition, Stmt as SourceStmt, SAssign, SPrint, SIf, SWhile, Body, none as nothing_left, more as and_then}
 use Rattle.py_meaning.specs.Rules.{has_name, reads_only, condition_reads_only, stmt_reads_only, body_reads_only, sure_after, are_reads_sure}
 use Rattle.py_meaning.specs.Binding.{targets_of, targets, names_bound}

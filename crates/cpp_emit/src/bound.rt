@@ -2,11 +2,13 @@
 
 ghost use Rattle.std.specs.Prelude.{◌≡◌, [], IfOk, OnOk};
 ghost use Rattle.py_meaning.specs.Binding.{targets_of, targets, names_bound as names_bound_by};
-ghost use Rattle.py_parser.specs.PlainTrees.{plain, plain_stmt, plain_body};
-ghost use Rattle.cpp_emit.specs.Names.{texts, with_name, with_names};
+ghost use Rattle.py_built.specs.PlainTrees.{plain, plain_stmt, plain_body};
+ghost use Rattle.py_built.specs.Names.{texts};
+ghost use Rattle.cpp_emit.specs.Names.{with_names};
 
 use indexmap::IndexSet;
-use py_parser::tree::{Module, Stmt};
+use py_built::bind;
+use py_built::tree::{Module, Stmt};
 use std::alloc::{AllocError, Global};
 
 /// The global names of a module, each once, in the order of their first bindings.
@@ -35,7 +37,7 @@ fn bind_targets(
 
 // Adds the names that a statement binds.
 #[cycle(targets)]
-#[tactic(auto, using(crate::proofs::NamesKept::lists, py_parser::specs::PlainTrees::plain_stmts))]
+#[tactic(auto, using(crate::proofs::NamesKept::lists, py_built::specs::PlainTrees::plain_stmts))]
 fn bind_targets_of(
     alloc: Global,
     names: &mut IndexSet<String>,
@@ -52,14 +54,4 @@ fn bind_targets_of(
         }
         Stmt::While(_, _, body) => bind_targets(alloc, names, body.as_slice()),
     }
-}
-
-// Adds a name, if it is not there.
-fn bind(alloc: Global, names: &mut IndexSet<String>, name: &str) -> Result<(), AllocError>
-    ensures { OnOk result (texts names.new ≡ with_name (texts names.old) name.now) }
-{
-    if !names.contains(name) {
-        names.insert(String::from_str(alloc, name)?)?;
-    }
-    Ok(())
 }

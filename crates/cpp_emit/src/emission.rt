@@ -2,14 +2,14 @@
 
 ghost use Rattle.std.specs.Prelude.{◌≡◌, [], ◌∷◌, ◌++◌, true, IfOk, OnOk, map, IsTrue, string_bytes};
 ghost use Rattle.py_meaning.specs.Rules.{are_reads_sure};
-ghost use Rattle.py_parser.specs.PlainTrees.{plain_expr, plain_binary, plain_comparison, plain_condition, plain_stmt, plain_body, plain as plain_source};
+ghost use Rattle.py_built.specs.PlainTrees.{plain_expr, plain_binary, plain_comparison, plain_condition, plain_stmt, plain_body, plain as plain_source};
 ghost use Rattle.cpp_ast.specs.Plain.{plain_expr as plain_operand, plain_binary as plain_operator, plain_stmt as plain_cpp_stmt, plain_block, plain_declaration, plain_definition, plain};
 ghost use Rattle.cpp_meaning.specs.Tree.{BodyHead, Body, Main, none};
 ghost use Rattle.shed_meaning.specs.EmittedName.{body_name as body_name_of};
 ghost use Rattle.shed_meaning.specs.Layout.{externs, variables};
 ghost use Rattle.cpp_emit.specs.Law.{IsTranslation};
 ghost use Rattle.cpp_emit.specs.Emit.{emit_operator as operator_of, emit_expr as operand_of, emit_comparison as comparison_of, emit_condition as condition_of, emit_print as print_of, emit_if as if_of, emit_body as body_of, emit_block as block_of, stmt_prints as statement_prints, prints as body_prints, emit as emission_of};
-ghost use Rattle.cpp_emit.specs.Names.{texts};
+ghost use Rattle.py_built.specs.Names.{texts};
 ghost use Rattle.cpp_emit.specs.Blocks.{followed_by, statements_of};
 
 use crate::bound::names_bound;
@@ -19,7 +19,7 @@ use cpp_ast::{
     CppType, CppValue, CppZero,
 };
 use indexmap::IndexSet;
-use py_parser::tree::{BinaryOperator, Comparison, Condition, Expr, Module, Stmt};
+use py_built::tree::{BinaryOperator, Comparison, Condition, Expr, Module, Stmt};
 use shed_base::NoMemory;
 use sqlite_items::{Boxed, Items};
 use std::alloc::{AllocError, Global};
@@ -127,7 +127,7 @@ fn prints(body: &[Stmt]) -> bool
 }
 
 #[cycle(prints)]
-#[tactic(auto, using(py_parser::specs::PlainTrees::plain_stmts))]
+#[tactic(auto, using(py_built::specs::PlainTrees::plain_stmts))]
 fn stmt_prints(stmt: &Stmt) -> bool
     ensures { result ≡ statement_prints (plain_stmt stmt.now) }
 {

@@ -8,7 +8,7 @@ use Rattle.runs.specs.FiniteMap.{put}
 use Rattle.runs.specs.Run.{Ending, Done, Raised, GoingOn, Gives, ComesTo}
 use Rattle.runs.specs.Moment.{moment_at}
 use Rattle.py_meaning.specs.Name.{Name}
-use Rattle.py_meaning.specs.Token.{Place}
+use Rattle.py_tokens.specs.Token.{Place}
 use Rattle.py_meaning.specs.Tree.{Negative, Add, Subtract, Multiply, Comparison, LessThan, AtMost, GreaterThan, AtLeast, EqualTo, NotEqualTo, Expr, EName, ENumber, EUnary, EBinary, Condition, CCompare, Stmt, SAssign, SPrint, SIf, SWhile, Body, none, more}
 use Rattle.py_meaning.specs.Value.{Value, VNone, VBool, VInt, VText, VReference, unary_value, binary_value, comparison_value, truth_of, text_of_value}
 use Rattle.py_meaning.specs.Program.{Program, Global, In}

@@ -1,10 +1,10 @@
 -- What the rules and the bindings of a module say of some trees.
-use Rattle.std.proofs.Common.{◌≡◌, ℕ, zero, suc, [], ◌∷◌, true, false, refl, codes, lit≤, lit<, not-le_of_lt}
+use Rattle.std.proofs.Common.{◌≡◌, [], ◌∷◌, true, false, refl, codes}
 use Rattle.py_meaning.specs.Name.{Name}
-use Rattle.py_meaning.specs.Token.{Place}
+use Rattle.py_tokens.specs.Token.{Place}
 use Rattle.py_meaning.specs.Tree.{Negative, Add, LessThan, Expr, EName, ENumber, EUnary, EBinary, Condition, CCompare, Stmt, SAssign, SPrint, SIf, SWhile, Body, none, more}
 use Rattle.py_meaning.specs.Binding.{names_bound}
-use Rattle.py_meaning.specs.Rules.{IsShallowBody, are_reads_sure}
+use Rattle.py_meaning.specs.Rules.{are_reads_sure}
 
 abbrev here : Place
 here = record { «module» = 0; line = 1; column = 1 }
@@ -111,37 +111,3 @@ read_in_condition = (refl, refl)
 
 read_behind_else : are_reads_sure [] (alone (SIf here never (alone (print one)) (alone (print (named x))))) ≡ false
 read_behind_else = refl
-
--- a number behind so many minus signs
-abbrev negated : ℕ → Expr
-negated zero = one
-negated (suc n) = EUnary here Negative (negated n)
-
--- in an assignment the number of 99 signs has 100 ancestors, and in a call of `print` that of 98
-deep_enough : IsShallowBody 0 (more (assign x (negated 99)) (more (print (negated 98)) none))
-deep_enough = (lit≤ tt, (lit≤ tt, tt))
-
-too_deep : IsShallowBody 0 (more (assign x (negated 100)) none) → ⊥
-too_deep h = not-le_of_lt (lit< tt) h.0
-
-too_deep_in_print : IsShallowBody 0 (more (print (negated 99)) none) → ⊥
-too_deep_in_print h = not-le_of_lt (lit< tt) h.0
-
--- an operand of a condition has two ancestors more than its statement, and what stands in a block has one more
-deep_enough_in_branch : IsShallowBody 0 (alone (SIf here (less one (negated 98)) (alone (assign x (negated 98))) (alone (print (negated 97)))))
-deep_enough_in_branch = (((lit≤ tt, lit≤ tt), (lit≤ tt, tt), (lit≤ tt, tt)), tt)
-
-deep_enough_in_loops : IsShallowBody 0 (alone (SWhile here (less (negated 98) one) (alone (SWhile here (less (negated 97) one) (alone (assign x (negated 97)))))))
-deep_enough_in_loops = (((lit≤ tt, lit≤ tt), (((lit≤ tt, lit≤ tt), (lit≤ tt, tt)), tt)), tt)
-
-too_deep_in_condition : IsShallowBody 0 (alone (SIf here (less one (negated 99)) (alone (assign x one)) none)) → ⊥
-too_deep_in_condition h = not-le_of_lt (lit< tt) h.0.0.1
-
-too_deep_in_inner_condition : IsShallowBody 0 (alone (SWhile here never (alone (SWhile here (less (negated 98) one) (alone (assign x one)))))) → ⊥
-too_deep_in_inner_condition h = not-le_of_lt (lit< tt) h.0.1.0.0.0
-
-too_deep_in_block : IsShallowBody 0 (alone (SWhile here never (alone (assign x (negated 99))))) → ⊥
-too_deep_in_block h = not-le_of_lt (lit< tt) h.0.1.0
-
-too_deep_behind_else : IsShallowBody 0 (alone (SIf here never (alone (assign x one)) (alone (assign x (negated 99))))) → ⊥
-too_deep_behind_else h = not-le_of_lt (lit< tt) h.0.2.0

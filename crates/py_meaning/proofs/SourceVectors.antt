@@ -1,390 +1,204 @@
--- Texts that are modules, and texts and trees that are not.
-use Rattle.std.proofs.Common.{◌≡◌, ℕ, List, [], ◌∷◌, true, false, Some, refl, sym, ap, ◌∙◌, subst, codes, lit≤, lit<, not-suc-le-zero, not-le_of_lt}
-use Rattle.grammars.specs.Run.{Done, Stuck, run}
+-- Some texts and the modules that they are, worked out by hand, and texts that are none.
+use Rattle.std.proofs.Common.{◌≡◌, ℕ, ◌<◌, ◌≤◌, ◌==◌, Bool, true, false, if◌then◌else◌, ◌&&◌, List, [], ◌∷◌, length, take, drop, codes, Option, Some, None, refl, sym, ap, ◌∙◌, subst, lit≤, eq-eqb, ltb-true}
+use Rattle.std.specs.Prelude.{nat_lt, IsAscii}
+use Rattle.std.specs.List.{list_all}
+use Rattle.std.proofs.lemmas.List.{append_cancel_right, take-append-drop}
+use Rattle.std.proofs.lemmas.Str.{utf8_valid_len-IsUtf8, chars-IsAscii, IsUtf8-from_ascii}
+use Rattle.std.proofs.lemmas.Str.Ascii.{IsAscii-nil, IsAscii-cons}
+use Rattle.runs.specs.Number.{W32}
+use Rattle.py_tokens.specs.Token.{Place, Token as TextToken, Outcome, Tokens, Refused}
+use Rattle.py_tokens.specs.Tokens.{tokens_of, tokens_of_characters, beginning, unmarked}
+use Rattle.grammars.specs.Run.{Outcome as RunOutcome, Done, Stuck, run}
+use Rattle.py_syntax.specs.Token.{Token}
+use Rattle.py_syntax.specs.Tree as whole
+use Rattle.py_syntax.specs.Build.{Parts, PBody}
+use Rattle.py_syntax.specs.Grammar.{IsModule}
+use Rattle.py_syntax.specs.Heights.{body_height}
+use Rattle.py_syntax.specs.Table.{table, sets}
+use Rattle.py_syntax.specs.Laws.{goal, start, finished, IsLongestFront}
+use Rattle.py_syntax.proofs.TableLaws.{run_builds_tree, stuck_at_longest_front}
 use Rattle.py_meaning.specs.Name.{Name}
-use Rattle.py_meaning.specs.Token.{Place, Equals, Plus, Minus, Open, Close, Colon, Less, Greater, TName, TNumber, TPrint, TMark, TNewline, TIndent, TDedent, TIf, TElse, TWhile, Token, At}
-use Rattle.py_meaning.specs.Lexer.{place, tokens_of}
-use Rattle.py_meaning.specs.Tree.{Negative, Add, Subtract, Multiply, LessThan, GreaterThan, Expr, EName, ENumber, EUnary, EBinary, CCompare, Stmt, SAssign, SPrint, SIf, SWhile, Body, none, more}
-use Rattle.py_meaning.specs.Grammar.{IsExpr, IsStmt, IsModule}
-use Rattle.py_meaning.specs.Rules.{IsShallowBody, are_reads_sure}
-use Rattle.py_meaning.specs.Table.{start, finished, table, sets, goal}
-use Rattle.py_meaning.specs.Source.{IsSource}
-use Rattle.py_meaning.proofs.TableLaws.{one_tree, run_builds_tree, stuck_has_no_tree}
+use Rattle.py_meaning.specs.Tree.{Add, LessThan, EqualTo, Comparison, EName, ENumber, EBinary, Condition, CCompare, Stmt, SAssign, SPrint, SIf, Body, none, more}
+use Rattle.py_meaning.specs.Rules.{are_reads_sure}
+use Rattle.py_meaning.specs.Built.{built_body, unbuilt, first_place}
+use Rattle.py_meaning.specs.Source.{IsText, IsSource, names_of, grammar_tokens}
+
+-- ---- texts of ASCII characters, whose bytes are their characters
+
+abbrev pub is_ascii : List ℕ → Bool
+is_ascii = list_all (λ b. nat_lt b 128)
+
+both : (a b : Bool) → (a && b) ≡ true → (a ≡ true) × (b ≡ true)
+both true true h = (refl, refl)
+both true false h = absurd (cc)
+both false b h = absurd (cc)
+
+below : (m n : ℕ) → nat_lt m n ≡ true → m < n
+below m n h = ltb-true m n h
+
+ascii : (text : List ℕ) → is_ascii text ≡ true → IsAscii text
+ascii [] h = IsAscii-nil
+ascii (b ∷ text) h = let p = both (nat_lt b 128) (is_ascii text) h in IsAscii-cons b text (below b 128 p.0) (ascii text p.1)
+
+whole_text : (n m : ℕ) (o e : Outcome) → n ≡ m → (if n == m then o else e) ≡ o
+whole_text n m o e h = rw h (go (m == m) refl)
+  where
+    go : (b : Bool) → (m == m) ≡ b → (if b then o else e) ≡ o
+    go true q = refl
+    go false q = absurd (let r : (m == m) ≡ true = eq-eqb m m refl in cc)
+
+-- the tokens of such a text
+pub ascii_tokens : (text : List ℕ) → is_ascii text ≡ true → tokens_of 0 W32 text ≡ tokens_of_characters W32 (beginning 0) (unmarked text)
+ascii_tokens text h =
+    let a = ascii text h in
+    whole_text _ (length text) _ _ (utf8_valid_len-IsUtf8 text (IsUtf8-from_ascii text a))
+    ∙ ap (λ (z : List ℕ). tokens_of_characters W32 (beginning 0) (unmarked z)) (chars-IsAscii text a)
+
+-- ---- modules: the text's tokens, the tree that the table builds of them, and what is built of the tree
+
+abbrev tokens_in : Outcome → List TextToken
+tokens_in (Tokens ts) = ts
+tokens_in (Refused r p) = []
+
+abbrev pub tokens : List ℕ → List TextToken
+tokens text = tokens_in (tokens_of_characters W32 (beginning 0) (unmarked text))
+
+abbrev tree_in : RunOutcome Token Parts → whole.Body
+tree_in (Done (PBody b ∷ v)) = b
+tree_in o = whole.no_stmts
+
+abbrev pub tree : ℕ → List ℕ → whole.Body
+tree n text = tree_in (run table sets n goal start (grammar_tokens (tokens text)))
+
+-- n steps of the run read the tokens as this tree, so they spell it
+pub spelt_text : (n : ℕ) (text : List ℕ) → run table sets n goal start (grammar_tokens (tokens text)) ≡ Done (finished (tree n text))
+    → IsModule (tree n text) (grammar_tokens (tokens text))
+spelt_text n text read =
+    let t = run_builds_tree n (grammar_tokens (tokens text)) (finished (tree n text)) read in
+    subst (λ (b : whole.Body). IsModule b (grammar_tokens (tokens text))) (same_body t.0 (tree n text) t.1) t.2
+  where
+    same_body : (a b : whole.Body) → finished b ≡ finished a → a ≡ b
+    same_body a b h = (cc)
+
+pub read_text : (n : ℕ) (text : List ℕ) → is_ascii text ≡ true → tokens_of_characters W32 (beginning 0) (unmarked text) ≡ Tokens (tokens text)
+    → run table sets n goal start (grammar_tokens (tokens text)) ≡ Done (finished (tree n text)) → body_height (tree n text) ≤ 101
+    → IsText text (tree n text) (names_of (tokens text))
+read_text n text a lexed read shallow =
+    record { tokens = tokens text; lexed = ascii_tokens text a ∙ lexed; numbering = refl; spelt = spelt_text n text read; shallow = shallow }
+
+pub source : (n : ℕ) (text : List ℕ) (body : Body) → is_ascii text ≡ true → tokens_of_characters W32 (beginning 0) (unmarked text) ≡ Tokens (tokens text)
+    → run table sets n goal start (grammar_tokens (tokens text)) ≡ Done (finished (tree n text)) → body_height (tree n text) ≤ 101
+    → built_body (names_of (tokens text)) (tree n text) ≡ Some body → are_reads_sure [] body ≡ true → IsSource text body
+source n text body a lexed read shallow built sure =
+    record { tree = tree n text; names = names_of (tokens text); read = read_text n text a lexed read shallow; built = built; sure = sure }
+
+-- where a run of n steps is stuck behind k tokens, they are the longest front
+pub longest_front : (n k : ℕ) (text : List ℕ)
+    → run table sets n goal start (grammar_tokens (tokens text)) ≡ Stuck (drop k (grammar_tokens (tokens text)))
+    → IsLongestFront (take k (grammar_tokens (tokens text))) (drop k (grammar_tokens (tokens text)))
+longest_front n k text read =
+    let ts = grammar_tokens (tokens text) in
+    let l = stuck_at_longest_front n ts (drop k ts) read in
+    let front : take k ts ≡ l.0 = append_cancel_right (take k ts) l.0 (drop k ts) (take-append-drop k ts ∙ l.1) in
+    subst (λ (f : List Token). IsLongestFront f (drop k ts)) (sym front) l.2
+
+abbrev pub at : ℕ → ℕ → Place
+at line column = record { «module» = 0; line = line; column = column }
 
 abbrev x : Name
 x = codes "x"
-
--- ---- modules
-
-nothing_is_source : IsSource [] none
-unfolding tokens_of
-nothing_is_source = record { tokens = []; lexed = refl; spelt = refl; shallow = tt; sure = refl }
 
 abbrev pub sum_text : List ℕ
 sum_text = codes "x = 1\nprint(x + 2)\n"
 
 abbrev pub sum_body : Body
 sum_body =
-    more (SAssign (place 1 1) x (ENumber (place 1 5) 1))
-    (more (SPrint (place 2 1) (place 2 6) (EBinary (place 2 9) Add (EName (place 2 7) x) (ENumber (place 2 11) 2))) none)
-
-abbrev sum_print : List Token
-sum_print = At (place 2 7) (TName x) ∷ At (place 2 9) (TMark Plus) ∷ At (place 2 11) (TNumber 2) ∷ At (place 2 12) (TMark Close) ∷ At (place 2 13) TNewline ∷ []
-
-abbrev sum_value : List Token
-sum_value = At (place 1 5) (TNumber 1) ∷ At (place 1 6) TNewline ∷ At (place 2 1) TPrint ∷ At (place 2 6) (TMark Open) ∷ sum_print
+    more (SAssign (at 1 1) x (ENumber (at 1 5) 1))
+    (more (SPrint (at 2 1) (at 2 6) (EBinary (at 2 9) Add (EName (at 2 7) x) (ENumber (at 2 11) 2))) none)
 
 pub sum_is_source : IsSource sum_text sum_body
-unfolding tokens_of
-sum_is_source =
-    record {
-      tokens = At (place 1 1) (TName x) ∷ At (place 1 3) (TMark Equals) ∷ sum_value;
-      lexed = refl;
-      spelt = (
-        At (place 2 1) TPrint ∷ At (place 2 6) (TMark Open) ∷ sum_print,
-        (place 1 3, place 1 6, sum_value, refl, refl),
-        ([], (place 2 12, place 2 13, sum_print, refl, (lit≤ tt, At (place 2 11) (TNumber 2) ∷ At (place 2 12) (TMark Close) ∷ At (place 2 13) TNewline ∷ [], refl, refl)), refl),
-      );
-      shallow = (lit≤ tt, ((lit≤ tt, lit≤ tt), tt));
-      sure = refl;
-    }
-
--- a branch, each part of whose text is named by what it begins with
-branch_text : List ℕ
-branch_text = codes "x = 1\nif x < 2:\n  print(x)\nelse:\n  x = 3\n"
-
-abbrev branch_body : Body
-branch_body =
-    more (SAssign (place 1 1) x (ENumber (place 1 5) 1))
-    (more (SIf (place 2 1) (CCompare (place 2 6) LessThan (EName (place 2 4) x) (ENumber (place 2 8) 2))
-    (more (SPrint (place 3 3) (place 3 8) (EName (place 3 9) x)) none)
-    (more (SAssign (place 5 3) x (ENumber (place 5 7) 3)) none)) none)
-
-abbrev branch_three : List Token
-branch_three = At (place 5 7) (TNumber 3) ∷ At (place 5 8) TNewline ∷ At (place 5 8) TDedent ∷ []
-
-abbrev branch_other : List Token
-branch_other = At (place 5 3) (TName x) ∷ At (place 5 5) (TMark Equals) ∷ branch_three
-
-abbrev branch_colon : List Token
-branch_colon = At (place 4 5) (TMark Colon) ∷ At (place 4 6) TNewline ∷ At (place 5 3) TIndent ∷ branch_other
-
-abbrev branch_else : List Token
-branch_else = At (place 4 1) TElse ∷ branch_colon
-
-abbrev branch_printed : List Token
-branch_printed = At (place 3 9) (TName x) ∷ At (place 3 10) (TMark Close) ∷ At (place 3 11) TNewline ∷ At (place 4 1) TDedent ∷ branch_else
-
-abbrev branch_print : List Token
-branch_print = At (place 3 3) TPrint ∷ At (place 3 8) (TMark Open) ∷ branch_printed
-
-abbrev branch_block : List Token
-branch_block = At (place 2 9) (TMark Colon) ∷ At (place 2 10) TNewline ∷ At (place 3 3) TIndent ∷ branch_print
-
-abbrev branch_two : List Token
-branch_two = At (place 2 8) (TNumber 2) ∷ branch_block
-
-abbrev branch_test : List Token
-branch_test = At (place 2 4) (TName x) ∷ At (place 2 6) (TMark Less) ∷ branch_two
-
-abbrev branch_if : List Token
-branch_if = At (place 2 1) TIf ∷ branch_test
-
-abbrev branch_one : List Token
-branch_one = At (place 1 5) (TNumber 1) ∷ At (place 1 6) TNewline ∷ branch_if
-
-branch_is_source : IsSource branch_text branch_body
-unfolding tokens_of branch_text
-branch_is_source =
-    record {
-      tokens = At (place 1 1) (TName x) ∷ At (place 1 3) (TMark Equals) ∷ branch_one;
-      lexed = refl;
-      spelt = (
-        branch_if,
-        (place 1 3, place 1 6, branch_one, refl, refl),
-        (
-          [],
-          (
-            branch_test,
-            branch_block,
-            branch_else,
-            refl,
-            (branch_two, refl, refl),
-            (place 2 9, place 2 10, place 3 3, place 4 1, branch_print, refl, (At (place 4 1) TDedent ∷ branch_else, (place 3 10, place 3 11, branch_printed, refl, refl), refl)),
-            (
-              place 4 1,
-              branch_colon,
-              refl,
-              (place 4 5, place 4 6, place 5 3, place 5 8, branch_other, refl, (At (place 5 8) TDedent ∷ [], (place 5 5, place 5 8, branch_three, refl, refl), refl)),
-            ),
-          ),
-          refl,
-        ),
-      );
-      shallow = (lit≤ tt, (((lit≤ tt, lit≤ tt), (lit≤ tt, tt), (lit≤ tt, tt)), tt));
-      sure = refl;
-    }
-
--- a loop
-loop_text : List ℕ
-loop_text = codes "x = 3\nwhile x > 0:\n  print(x)\n  x = x - 1\n"
-
-abbrev loop_body : Body
-loop_body =
-    more (SAssign (place 1 1) x (ENumber (place 1 5) 3))
-    (more (SWhile (place 2 1) (CCompare (place 2 9) GreaterThan (EName (place 2 7) x) (ENumber (place 2 11) 0))
-    (more (SPrint (place 3 3) (place 3 8) (EName (place 3 9) x))
-    (more (SAssign (place 4 3) x (EBinary (place 4 9) Subtract (EName (place 4 7) x) (ENumber (place 4 11) 1))) none))) none)
-
-abbrev loop_less_one : List Token
-loop_less_one = At (place 4 11) (TNumber 1) ∷ At (place 4 12) TNewline ∷ At (place 4 12) TDedent ∷ []
-
-abbrev loop_value : List Token
-loop_value = At (place 4 7) (TName x) ∷ At (place 4 9) (TMark Minus) ∷ loop_less_one
-
-abbrev loop_assigned : List Token
-loop_assigned = At (place 4 3) (TName x) ∷ At (place 4 5) (TMark Equals) ∷ loop_value
-
-abbrev loop_printed : List Token
-loop_printed = At (place 3 9) (TName x) ∷ At (place 3 10) (TMark Close) ∷ At (place 3 11) TNewline ∷ loop_assigned
-
-abbrev loop_print : List Token
-loop_print = At (place 3 3) TPrint ∷ At (place 3 8) (TMark Open) ∷ loop_printed
-
-abbrev loop_block : List Token
-loop_block = At (place 2 12) (TMark Colon) ∷ At (place 2 13) TNewline ∷ At (place 3 3) TIndent ∷ loop_print
-
-abbrev loop_nothing : List Token
-loop_nothing = At (place 2 11) (TNumber 0) ∷ loop_block
-
-abbrev loop_test : List Token
-loop_test = At (place 2 7) (TName x) ∷ At (place 2 9) (TMark Greater) ∷ loop_nothing
-
-abbrev loop_while : List Token
-loop_while = At (place 2 1) TWhile ∷ loop_test
-
-abbrev loop_three : List Token
-loop_three = At (place 1 5) (TNumber 3) ∷ At (place 1 6) TNewline ∷ loop_while
-
-loop_is_source : IsSource loop_text loop_body
-unfolding tokens_of loop_text
-loop_is_source =
-    record {
-      tokens = At (place 1 1) (TName x) ∷ At (place 1 3) (TMark Equals) ∷ loop_three;
-      lexed = refl;
-      spelt = (
-        loop_while,
-        (place 1 3, place 1 6, loop_three, refl, refl),
-        (
-          [],
-          (
-            loop_test,
-            loop_block,
-            refl,
-            (loop_nothing, refl, refl),
-            (
-              place 2 12,
-              place 2 13,
-              place 3 3,
-              place 4 12,
-              loop_print,
-              refl,
-              (
-                loop_assigned,
-                (place 3 10, place 3 11, loop_printed, refl, refl),
-                (At (place 4 12) TDedent ∷ [], (place 4 5, place 4 12, loop_value, refl, (lit≤ tt, loop_less_one, refl, refl)), refl),
-              ),
-            ),
-          ),
-          refl,
-        ),
-      );
-      shallow = (lit≤ tt, (((lit≤ tt, lit≤ tt), (lit≤ tt, ((lit≤ tt, lit≤ tt), tt))), tt));
-      sure = refl;
-    }
-
--- what the run reads is the module, where it keeps the rules
-read_as : (text : List ℕ) (ts : List Token) (body : Body) (n : ℕ) → tokens_of text ≡ Some ts → run table sets n goal start ts ≡ Done (finished body)
-    → IsShallowBody 0 body → are_reads_sure [] body ≡ true → IsSource text body
-read_as text ts body n lexed read shallow sure = record { tokens = ts; lexed = lexed; spelt = (run_builds_tree n ts (finished body) read).1; shallow = shallow; sure = sure }
-
--- `else` belongs to the `if` that stands as far in as itself
-abbrev outer_else_tokens : List Token
-outer_else_tokens =
-    At (place 1 1) TIf ∷ At (place 1 4) (TNumber 1) ∷ At (place 1 6) (TMark Less) ∷ At (place 1 8) (TNumber 2) ∷ At (place 1 9) (TMark Colon) ∷ At (place 1 10) TNewline
-    ∷ At (place 2 2) TIndent ∷ At (place 2 2) TIf ∷ At (place 2 5) (TNumber 2) ∷ At (place 2 7) (TMark Less) ∷ At (place 2 9) (TNumber 1) ∷ At (place 2 10) (TMark Colon) ∷ At (place 2 11) TNewline
-    ∷ At (place 3 3) TIndent ∷ At (place 3 3) TPrint ∷ At (place 3 8) (TMark Open) ∷ At (place 3 9) (TNumber 1) ∷ At (place 3 10) (TMark Close) ∷ At (place 3 11) TNewline
-    ∷ At (place 4 1) TDedent ∷ At (place 4 1) TDedent ∷ At (place 4 1) TElse ∷ At (place 4 5) (TMark Colon) ∷ At (place 4 6) TNewline
-    ∷ At (place 5 2) TIndent ∷ At (place 5 2) TPrint ∷ At (place 5 7) (TMark Open) ∷ At (place 5 8) (TNumber 2) ∷ At (place 5 9) (TMark Close) ∷ At (place 5 10) TNewline
-    ∷ At (place 5 10) TDedent ∷ []
-
--- the inner branch, with what it does otherwise
-abbrev inner_branch : Body → Stmt
-inner_branch other = SIf (place 2 2) (CCompare (place 2 7) LessThan (ENumber (place 2 5) 2) (ENumber (place 2 9) 1)) (more (SPrint (place 3 3) (place 3 8) (ENumber (place 3 9) 1)) none) other
-
-abbrev outer_branch : Body → Body → Body
-outer_branch body other = more (SIf (place 1 1) (CCompare (place 1 6) LessThan (ENumber (place 1 4) 1) (ENumber (place 1 8) 2)) body other) none
-
-outer_else :
-    IsSource (codes "if 1 < 2:\n if 2 < 1:\n  print(1)\nelse:\n print(2)\n")
-    (outer_branch (more (inner_branch none) none) (more (SPrint (place 5 2) (place 5 7) (ENumber (place 5 8) 2)) none))
-unfolding tokens_of
-outer_else = read_as _ outer_else_tokens _ 200 refl refl (((lit≤ tt, lit≤ tt), (((lit≤ tt, lit≤ tt), (lit≤ tt, tt), tt), tt), (lit≤ tt, tt)), tt) refl
-
-abbrev inner_else_tokens : List Token
-inner_else_tokens =
-    At (place 1 1) TIf ∷ At (place 1 4) (TNumber 1) ∷ At (place 1 6) (TMark Less) ∷ At (place 1 8) (TNumber 2) ∷ At (place 1 9) (TMark Colon) ∷ At (place 1 10) TNewline
-    ∷ At (place 2 2) TIndent ∷ At (place 2 2) TIf ∷ At (place 2 5) (TNumber 2) ∷ At (place 2 7) (TMark Less) ∷ At (place 2 9) (TNumber 1) ∷ At (place 2 10) (TMark Colon) ∷ At (place 2 11) TNewline
-    ∷ At (place 3 3) TIndent ∷ At (place 3 3) TPrint ∷ At (place 3 8) (TMark Open) ∷ At (place 3 9) (TNumber 1) ∷ At (place 3 10) (TMark Close) ∷ At (place 3 11) TNewline
-    ∷ At (place 4 2) TDedent ∷ At (place 4 2) TElse ∷ At (place 4 6) (TMark Colon) ∷ At (place 4 7) TNewline
-    ∷ At (place 5 3) TIndent ∷ At (place 5 3) TPrint ∷ At (place 5 8) (TMark Open) ∷ At (place 5 9) (TNumber 2) ∷ At (place 5 10) (TMark Close) ∷ At (place 5 11) TNewline
-    ∷ At (place 5 11) TDedent ∷ At (place 5 11) TDedent ∷ []
-
-inner_else :
-    IsSource (codes "if 1 < 2:\n if 2 < 1:\n  print(1)\n else:\n  print(2)\n")
-    (outer_branch (more (inner_branch (more (SPrint (place 5 3) (place 5 8) (ENumber (place 5 9) 2)) none)) none) none)
-unfolding tokens_of
-inner_else = read_as _ inner_else_tokens _ 200 refl refl (((lit≤ tt, lit≤ tt), (((lit≤ tt, lit≤ tt), (lit≤ tt, tt), (lit≤ tt, tt)), tt), tt), tt) refl
-
--- ---- texts that are no modules
-
--- x = 1, with no line end
-unended : (body : Body) → IsSource (codes "x = 1") body → ⊥
-unfolding tokens_of
-unended body s = cc (s.lexed)
-
--- print(y): y is unset, and the tokens spell no other tree
-abbrev unset_tokens : List Token
-unset_tokens = At (place 1 1) TPrint ∷ At (place 1 6) (TMark Open) ∷ At (place 1 7) (TName (codes "y")) ∷ At (place 1 8) (TMark Close) ∷ At (place 1 9) TNewline ∷ []
-
-abbrev unset_body : Body
-unset_body = more (SPrint (place 1 1) (place 1 6) (EName (place 1 7) (codes "y"))) none
-
-unset_spelt : IsModule unset_body unset_tokens
-unset_spelt = ([], (place 1 8, place 1 9, At (place 1 7) (TName (codes "y")) ∷ At (place 1 8) (TMark Close) ∷ At (place 1 9) TNewline ∷ [], refl, refl), refl)
-
-unset_lexed : tokens_of (codes "print(y)\n") ≡ Some unset_tokens
-unfolding tokens_of
-unset_lexed = refl
-
-pub unset : (body : Body) → IsSource (codes "print(y)\n") body → ⊥
-unset body s =
-    let tokens : unset_tokens ≡ s.tokens = cc (unset_lexed, s.lexed) in
-    let same : unset_body ≡ body = one_tree unset_body body s.tokens (subst (λ (ts : List Token). IsModule unset_body ts) tokens unset_spelt) s.spelt in
-    let sure : false ≡ true = ap (are_reads_sure []) same ∙ s.sure in
-    cc sure
-
--- if 1 < 2: x = 1; print(x): the block may not be run
-abbrev unsure_tokens : List Token
-unsure_tokens =
-    At (place 1 1) TIf ∷ At (place 1 4) (TNumber 1) ∷ At (place 1 6) (TMark Less) ∷ At (place 1 8) (TNumber 2) ∷ At (place 1 9) (TMark Colon) ∷ At (place 1 10) TNewline
-    ∷ At (place 2 3) TIndent ∷ At (place 2 3) (TName x) ∷ At (place 2 5) (TMark Equals) ∷ At (place 2 7) (TNumber 1) ∷ At (place 2 8) TNewline
-    ∷ At (place 3 1) TDedent ∷ At (place 3 1) TPrint ∷ At (place 3 6) (TMark Open) ∷ At (place 3 7) (TName x) ∷ At (place 3 8) (TMark Close) ∷ At (place 3 9) TNewline ∷ []
-
-abbrev unsure_body : Body
-unsure_body =
-    more (SIf (place 1 1) (CCompare (place 1 6) LessThan (ENumber (place 1 4) 1) (ENumber (place 1 8) 2)) (more (SAssign (place 2 3) x (ENumber (place 2 7) 1)) none) none)
-    (more (SPrint (place 3 1) (place 3 6) (EName (place 3 7) x)) none)
-
-unsure_lexed : tokens_of (codes "if 1 < 2:\n  x = 1\nprint(x)\n") ≡ Some unsure_tokens
-unfolding tokens_of
-unsure_lexed = refl
-
-unsure : (body : Body) → IsSource (codes "if 1 < 2:\n  x = 1\nprint(x)\n") body → ⊥
-unsure body s =
-    let tokens : unsure_tokens ≡ s.tokens = cc (unsure_lexed, s.lexed) in
-    let spelt : IsModule unsure_body unsure_tokens = (run_builds_tree 100 unsure_tokens (finished unsure_body) refl).1 in
-    let same : unsure_body ≡ body = one_tree unsure_body body s.tokens (subst (λ (ts : List Token). IsModule unsure_body ts) tokens spelt) s.spelt in
-    let sure : false ≡ true = ap (are_reads_sure []) same ∙ s.sure in
-    cc sure
-
--- the tokens of these texts spell no tree, as the run is stuck at some token of each
-stuck_at : (text : List ℕ) (ts rest : List Token) → tokens_of text ≡ Some ts → run table sets 100 goal start ts ≡ Stuck rest → (body : Body) → IsSource text body → ⊥
-stuck_at text ts rest lexed stuck body s =
-    let tokens : ts ≡ s.tokens = cc (lexed, s.lexed) in
-    stuck_has_no_tree 100 ts rest stuck body (subst (λ (these : List Token). IsModule body these) (sym tokens) s.spelt)
-
--- a block has one statement at least, on a line of its own
-abbrev no_block_rest : List Token
-no_block_rest = At (place 2 1) (TName x) ∷ At (place 2 3) (TMark Equals) ∷ At (place 2 5) (TNumber 1) ∷ At (place 2 6) TNewline ∷ []
-
-no_block : (body : Body) → IsSource (codes "while 1 < 2:\nx = 1\n") body → ⊥
-unfolding tokens_of
-no_block =
-    stuck_at (codes "while 1 < 2:\nx = 1\n")
-    (At (place 1 1) TWhile ∷ At (place 1 7) (TNumber 1) ∷ At (place 1 9) (TMark Less) ∷ At (place 1 11) (TNumber 2) ∷ At (place 1 12) (TMark Colon) ∷ At (place 1 13) TNewline ∷ no_block_rest)
-    no_block_rest refl refl
-
-abbrev one_line_rest : List Token
-one_line_rest = At (place 1 11) (TName x) ∷ At (place 1 13) (TMark Equals) ∷ At (place 1 15) (TNumber 1) ∷ At (place 1 16) TNewline ∷ []
-
-one_line : (body : Body) → IsSource (codes "if 1 < 2: x = 1\n") body → ⊥
-unfolding tokens_of
-one_line =
-    stuck_at (codes "if 1 < 2: x = 1\n")
-    (At (place 1 1) TIf ∷ At (place 1 4) (TNumber 1) ∷ At (place 1 6) (TMark Less) ∷ At (place 1 8) (TNumber 2) ∷ At (place 1 9) (TMark Colon) ∷ one_line_rest)
-    one_line_rest refl refl
-
--- a module is no block
-abbrev indented_tokens : List Token
-indented_tokens = At (place 1 2) TIndent ∷ At (place 1 2) (TName x) ∷ At (place 1 4) (TMark Equals) ∷ At (place 1 6) (TNumber 1) ∷ At (place 1 7) TNewline ∷ At (place 1 7) TDedent ∷ []
-
-indented : (body : Body) → IsSource (codes " x = 1\n") body → ⊥
-unfolding tokens_of
-indented = stuck_at (codes " x = 1\n") indented_tokens indented_tokens refl refl
-
--- `else` without `if`, also behind a loop
-abbrev loop_else_rest : List Token
-loop_else_rest =
-    At (place 3 1) TElse ∷ At (place 3 5) (TMark Colon) ∷ At (place 3 6) TNewline
-    ∷ At (place 4 2) TIndent ∷ At (place 4 2) (TName x) ∷ At (place 4 4) (TMark Equals) ∷ At (place 4 6) (TNumber 2) ∷ At (place 4 7) TNewline ∷ At (place 4 7) TDedent ∷ []
-
-loop_else : (body : Body) → IsSource (codes "while 1 < 2:\n x = 1\nelse:\n x = 2\n") body → ⊥
-unfolding tokens_of
-loop_else =
-    stuck_at (codes "while 1 < 2:\n x = 1\nelse:\n x = 2\n")
-    (At (place 1 1) TWhile ∷ At (place 1 7) (TNumber 1) ∷ At (place 1 9) (TMark Less) ∷ At (place 1 11) (TNumber 2) ∷ At (place 1 12) (TMark Colon) ∷ At (place 1 13) TNewline
-    ∷ At (place 2 2) TIndent ∷ At (place 2 2) (TName x) ∷ At (place 2 4) (TMark Equals) ∷ At (place 2 6) (TNumber 1) ∷ At (place 2 7) TNewline ∷ At (place 3 1) TDedent ∷ loop_else_rest)
-    loop_else_rest refl refl
-
--- two comparisons in a row, a comparison as a value, and a condition with none
-abbrev chained_rest : List Token
-chained_rest = At (place 1 10) (TMark Less) ∷ At (place 1 12) (TNumber 3) ∷ At (place 1 13) (TMark Colon) ∷ At (place 1 14) TNewline ∷ At (place 2 2) TIndent ∷ At (place 2 2) (TName x) ∷ At (place 2 4) (TMark Equals) ∷ At (place 2 6) (TNumber 1) ∷ At (place 2 7) TNewline ∷ At (place 2 7) TDedent ∷ []
-
-chained : (body : Body) → IsSource (codes "if 1 < 2 < 3:\n x = 1\n") body → ⊥
-unfolding tokens_of
-chained =
-    stuck_at (codes "if 1 < 2 < 3:\n x = 1\n")
-    (At (place 1 1) TIf ∷ At (place 1 4) (TNumber 1) ∷ At (place 1 6) (TMark Less) ∷ At (place 1 8) (TNumber 2) ∷ chained_rest)
-    chained_rest refl refl
-
-comparison_as_value : (body : Body) → IsSource (codes "x = 1 < 2\n") body → ⊥
-unfolding tokens_of
-comparison_as_value =
-    stuck_at (codes "x = 1 < 2\n")
-    (At (place 1 1) (TName x) ∷ At (place 1 3) (TMark Equals) ∷ At (place 1 5) (TNumber 1) ∷ At (place 1 7) (TMark Less) ∷ At (place 1 9) (TNumber 2) ∷ At (place 1 10) TNewline ∷ [])
-    (At (place 1 7) (TMark Less) ∷ At (place 1 9) (TNumber 2) ∷ At (place 1 10) TNewline ∷ []) refl refl
-
-abbrev not_compared_rest : List Token
-not_compared_rest = At (place 1 5) (TMark Colon) ∷ At (place 1 6) TNewline ∷ At (place 2 2) TIndent ∷ At (place 2 2) (TName x) ∷ At (place 2 4) (TMark Equals) ∷ At (place 2 6) (TNumber 1) ∷ At (place 2 7) TNewline ∷ At (place 2 7) TDedent ∷ []
-
-not_compared : (body : Body) → IsSource (codes "if 1:\n x = 1\n") body → ⊥
-unfolding tokens_of
-not_compared = stuck_at (codes "if 1:\n x = 1\n") (At (place 1 1) TIf ∷ At (place 1 4) (TNumber 1) ∷ not_compared_rest) not_compared_rest refl refl
-
--- ---- trees that no tokens spell
-
--- a block of no statement
-empty_block : (p : Place) (a b : Expr) (ts rest : List Token) → IsStmt (SWhile p (CCompare p LessThan a b) none) ts rest → ⊥
-empty_block p a b ts rest h = h.4
-
--- operators of one level don't nest to the right: a - (b - c)
-nested_right : (p q : Place) (a b c : Expr) (ts rest : List Token) → IsExpr 0 (EBinary p Subtract a (EBinary q Subtract b c)) ts rest → ⊥
-nested_right p q a b c ts rest h = not-suc-le-zero (h.3.0)
-
--- a sum is no factor, and no operand of a minus sign: (a + b) * c, and -(a * b)
-sum_as_factor : (p q : Place) (a b c : Expr) (ts rest : List Token) → IsExpr 0 (EBinary p Multiply (EBinary q Add a b) c) ts rest → ⊥
-sum_as_factor p q a b c ts rest h = not-suc-le-zero (h.2.0)
-
-product_negated : (p q : Place) (a b : Expr) (ts rest : List Token) → IsExpr 0 (EUnary p Negative (EBinary q Multiply a b)) ts rest → ⊥
-product_negated p q a b ts rest h = not-le_of_lt (lit< tt) h.2.0
+unfolding lib.Utf8.encode
+sum_is_source = source 400 sum_text sum_body refl refl refl (lit≤ tt) refl refl
+
+pub nothing_is_source : IsSource [] none
+unfolding lib.Utf8.encode
+nothing_is_source = source 20 [] none refl refl refl (lit≤ tt) refl refl
+
+-- however it is spelt: blocks on the lines of their heads, `elif`, `;`, a tab, a comment, another base, no last line end
+abbrev short_text : List ℕ
+short_text = codes "x = 0x1_0\nif x < 1: print(1)\nelif x == 2:\n\tprint(2,); x = 3\nelse: print(4) # four"
+
+abbrev less : Place → Comparison → Place → Place → ℕ → Condition
+less p o q r n = CCompare p o (EName q x) (ENumber r n)
+
+abbrev printed : Place → Place → Place → ℕ → Stmt
+printed p q r n = SPrint p q (ENumber r n)
+
+abbrev short_body : Body
+short_body =
+    more (SAssign (at 1 1) x (ENumber (at 1 5) 16))
+    (more (SIf (at 2 1) (less (at 2 6) LessThan (at 2 4) (at 2 8) 1) (more (printed (at 2 11) (at 2 16) (at 2 17) 1) none)
+    (more (SIf (at 3 1) (less (at 3 8) EqualTo (at 3 6) (at 3 11) 2)
+    (more (printed (at 4 2) (at 4 7) (at 4 8) 2) (more (SAssign (at 4 13) x (ENumber (at 4 17) 3)) none))
+    (more (printed (at 5 7) (at 5 12) (at 5 13) 4) none)) none)) none)
+
+short_is_source : IsSource short_text short_body
+unfolding lib.Utf8.encode
+short_is_source = source 2000 short_text short_body refl refl refl (lit≤ tt) refl refl
+
+-- ---- the first place that isn't built
+
+abbrev first_unbuilt : ℕ → List ℕ → Option Place
+first_unbuilt n text = first_place (unbuilt (names_of (tokens text)) [] (tree n text))
+
+nothing_unbuilt_there : first_unbuilt 400 sum_text ≡ None
+unfolding lib.Utf8.encode
+nothing_unbuilt_there = refl
+
+-- a parenthesis, a division to the floor behind a sum, a read that may be unset, and a comparison that is a value
+parenthesis : first_unbuilt 400 (codes "x = (1)\n") ≡ Some (at 1 5)
+unfolding lib.Utf8.encode
+parenthesis = refl
+
+floor_division : first_unbuilt 400 (codes "x = 1 + 2 // 3\n") ≡ Some (at 1 11)
+unfolding lib.Utf8.encode
+floor_division = refl
+
+unset_before_attribute : first_unbuilt 400 (codes "x = y.a\n") ≡ Some (at 1 5)
+unfolding lib.Utf8.encode
+unset_before_attribute = refl
+
+set_before_attribute : first_unbuilt 800 (codes "y = 1\nx = y.a\n") ≡ Some (at 2 6)
+unfolding lib.Utf8.encode
+set_before_attribute = refl
+
+compared : first_unbuilt 400 (codes "x = 1 < 2\n") ≡ Some (at 1 7)
+unfolding lib.Utf8.encode
+compared = refl
+
+-- what is tested is one comparison
+tested_name : first_unbuilt 800 (codes "x = 1\nif x: x = 2\n") ≡ Some (at 2 4)
+unfolding lib.Utf8.encode
+tested_name = refl
+
+chained : first_unbuilt 800 (codes "while 1 < 2 < 3: print(1)\n") ≡ Some (at 1 9)
+unfolding lib.Utf8.encode
+chained = refl
+
+-- statements of other forms, at their first token
+two_arguments : first_unbuilt 800 (codes "print(1)\nprint(1, 2)\n") ≡ Some (at 2 1)
+unfolding lib.Utf8.encode
+two_arguments = refl
+
+two_targets : first_unbuilt 800 (codes "x = 1; y = x = 2\n") ≡ Some (at 1 8)
+unfolding lib.Utf8.encode
+two_targets = refl
+
+function : first_unbuilt 800 (codes "def f(x): return x\n") ≡ Some (at 1 1)
+unfolding lib.Utf8.encode
+function = refl
+
+-- an assignment in a block may not have run
+set_in_block : first_unbuilt 800 (codes "if 1 < 2: x = 1\nprint(x)\n") ≡ Some (at 2 7)
+unfolding lib.Utf8.encode
+set_in_block = refl

@@ -1,12 +1,9 @@
 pub mod Name
-pub mod Token
-pub mod Lexer
 pub mod Tree
-pub mod Grammar
 pub mod Rules
-pub mod Table
-pub mod Source
+pub mod Binding
 pub mod Value
 pub mod Program
-pub mod Binding
 pub mod Machine
+pub mod Built
+pub mod Source

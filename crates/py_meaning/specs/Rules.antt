@@ -1,34 +1,7 @@
--- What a module must keep beyond its grammar: it nests little, and it reads no name that may be unset.
-use Rattle.std.specs.Prelude.{ℕ, suc, ◌≤◌, List, [], ◌∷◌, Bool, true, false, ◌&&◌, ◌||◌}
+-- What a module must keep beyond its grammar: it reads no name that may be unset.
+use Rattle.std.specs.Prelude.{List, [], ◌∷◌, Bool, true, false, ◌&&◌, ◌||◌}
 use Rattle.py_meaning.specs.Name.{Name, same_name}
 use Rattle.py_meaning.specs.Tree.{Expr, EName, ENumber, EUnary, EBinary, Condition, CCompare, Stmt, SAssign, SPrint, SIf, SWhile, Body, none, more}
-
--- the most ancestors that a node of a module may have
-abbrev pub most_ancestors : ℕ
-most_ancestors = 100
-
--- an expression that has n ancestors, and all in it, have no more ancestors than they may
-abbrev pub IsShallow : ℕ → Expr → Type 0
-IsShallow n (EName p x) = n ≤ most_ancestors
-IsShallow n (ENumber p v) = n ≤ most_ancestors
-IsShallow n (EUnary p o e) = IsShallow (suc n) e
-IsShallow n (EBinary p o a b) = IsShallow (suc n) a × IsShallow (suc n) b
-
--- what is compared stands under its comparison
-abbrev pub IsShallowCondition : ℕ → Condition → Type 0
-IsShallowCondition n (CCompare p o a b) = IsShallow (suc n) a × IsShallow (suc n) b
-
--- Statements and expressions are nodes, and the module and a block are none. What `print` prints stands under a call.
-abbrev mutual
-  pub IsShallowStmt : ℕ → Stmt → Type 0
-  IsShallowStmt n (SAssign p x e) = IsShallow (suc n) e
-  IsShallowStmt n (SPrint p c e) = IsShallow (suc (suc n)) e
-  IsShallowStmt n (SIf p c body other) = IsShallowCondition (suc n) c × IsShallowBody (suc n) body × IsShallowBody (suc n) other
-  IsShallowStmt n (SWhile p c body) = IsShallowCondition (suc n) c × IsShallowBody (suc n) body
-
-  pub IsShallowBody : ℕ → Body → Type 0
-  IsShallowBody n none = Unit {0}
-  IsShallowBody n (more s body) = IsShallowStmt n s × IsShallowBody n body
 
 abbrev pub has_name : List Name → Name → Bool
 has_name [] x = false

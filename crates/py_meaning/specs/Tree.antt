@@ -2,7 +2,7 @@
 -- place of its head token: an operator's, a call's `(`, and a statement's first token.
 use Rattle.std.specs.Prelude.{ℕ}
 use Rattle.py_meaning.specs.Name.{Name}
-use Rattle.py_meaning.specs.Token.{Place}
+use Rattle.py_tokens.specs.Token.{Place}
 
 pub data Unary : Type 0 where
   Negative : Unary

@@ -1,14 +1,8 @@
-pub mod MarkLemmas
-pub mod TokenLemmas
-pub mod WantedLemmas
-pub mod TokenSteps
-pub mod TokenWanted
-pub mod WholeLemmas
-pub mod LevelLemmas
-pub mod ReadLemmas
-pub mod Stacks
-pub mod Rows
-pub mod Bounds
-pub mod Turns
-pub mod Starts
-pub mod OneReading
+mod Stacks
+mod Pushes
+mod Handlers
+mod Additions
+mod Taken
+mod TargetLemmas
+pub mod PartsStand
+pub mod Shallow

@@ -1,10 +1,4 @@
-pub mod PlainTokens
+pub mod PlainExprs
 pub mod PlainTrees
-pub mod Marks
-pub mod Wanted
-pub mod Reads
-pub mod PlainTable
-pub mod Bounded
-pub mod PlainKept
-pub mod Parsed
-pub mod Reading
+pub mod PlainParts
+pub mod PlainTargets

@@ -1,14 +1,13 @@
 -- How a run of the command ends, cause by cause.
-use Rattle.std.proofs.Common.{◌≡◌, ℕ, List, Option, None, Some, refl, sym, ap, ◌∙◌, subst, inl, inr, take}
+use Rattle.std.proofs.Common.{◌≡◌, ℕ, List, Option, None, Some, ap, ◌∙◌, subst, inl, inr, take}
 use Rattle.shed_base.specs.Outside.{Rose}
 use Rattle.shed_base.specs.Files.{Files}
 use Rattle.py_meaning.specs.Name.{Name}
-use Rattle.cpp_meaning.specs.Text.{File}
 use Rattle.shed_meaning.specs.Words.{reading}
-use Rattle.shed_meaning.specs.Outcome.{World, Translated, Unread, Missing, Unbuilt, ReadFailed, WriteFailed, OutOfMemory, status_of, message_of, GivesModule, with_files, Yields, BreaksOff, Says, Ends}
+use Rattle.shed_meaning.specs.Outcome.{World, Cause, Translated, Unread, Missing, TooLarge, Faulty, ReadFailed, WriteFailed, OutOfMemory, status_of, message_of, with_files, Yields, BreaksOff, Says, Ends}
 use Rattle.shed_cli.specs.declared.file.File.{File as FileToWrite}
 use Rattle.shed_cli.specs.Plain.{plain_files}
-use Rattle.shed_cli.specs.Judging.{IsTooLongOrUnbuilt}
+use Rattle.shed_cli.specs.Judging.{IsRefusal}
 
 -- the message of a cause is said
 abbrev SaysOf : World → World → List ℕ → ℕ → ℕ → Type 0
@@ -18,13 +17,20 @@ module _ (words : List (List ℕ)) (old new : World) (status : ℕ) (same_out : 
   pub end_unread : reading words ≡ None → new.files ≡ old.files → SaysOf old new (message_of Unread) 2 status → Ends words old new status
   end_unread read same says = record { cause = Unread; holds = (read, same); tells = says; out = same_out }
 
-  pub end_missing : (name : Name) (message : List ℕ) → reading words ≡ Some name → GivesModule old.files name None → message ≡ message_of (Missing name) → new.files ≡ old.files → SaysOf old new message 3 status → Ends words old new status
-  end_missing name message read gives is same says =
-      record { cause = Missing name; holds = (read, gives, same); tells = subst (λ m. SaysOf old new m 3 status) is says; out = same_out }
-
-  pub end_unbuilt : (name : Name) (text message : List ℕ) → reading words ≡ Some name → GivesModule old.files name (Some text) → IsTooLongOrUnbuilt text → message ≡ message_of (Unbuilt name) → new.files ≡ old.files → SaysOf old new message 3 status → Ends words old new status
-  end_unbuilt name text message read gives why is same says =
-      record { cause = Unbuilt name; holds = (read, text, gives, why, same); tells = subst (λ m. SaysOf old new m 3 status) is says; out = same_out }
+  -- for a cause that refuses, with its message and status
+  pub end_refused : (cause : Cause) (message : List ℕ) (wanted : ℕ) → IsRefusal words old.files cause → message ≡ message_of cause → wanted ≡ status_of cause → new.files ≡ old.files
+      → SaysOf old new message wanted status → Ends words old new status
+  end_refused cause message wanted h is number same says = at cause h (subst (λ (m : List ℕ). SaysOf old new m (status_of cause) status) is (subst (λ (n : ℕ). SaysOf old new message n status) number says))
+    where
+      at : (cause : Cause) → IsRefusal words old.files cause → SaysOf old new (message_of cause) (status_of cause) status → Ends words old new status
+      at (Missing name) h says = record { cause = Missing name; holds = (h.0, h.1, same); tells = says; out = same_out }
+      at (TooLarge name) h says = record { cause = TooLarge name; holds = (h.0, h.1, h.2, h.3, same); tells = says; out = same_out }
+      at (Faulty name f) h says = record { cause = Faulty name f; holds = (h.0, h.1, h.2, h.3, h.4, same); tells = says; out = same_out }
+      at Translated h says = absurd h
+      at Unread h says = absurd h
+      at ReadFailed h says = absurd h
+      at WriteFailed h says = absurd h
+      at OutOfMemory h says = absurd h
 
   pub end_read_failed : (name : Name) → reading words ≡ Some name → Rose old.read_faults new.read_faults → new.files ≡ old.files → SaysOf old new (message_of ReadFailed) 6 status → Ends words old new status
   end_read_failed name read rose same says = record { cause = ReadFailed; holds = (name, read, rose, same); tells = says; out = same_out }

@@ -2,7 +2,7 @@
 use Rattle.std.proofs.Common.{◌≡◌, ℕ, ◌+◌, ◌<◌, List, [], ◌∷◌, ◌++◌, length, drop, get_or, sym, ap, ◌∙◌, append_assoc}
 use Rattle.std.proofs.lemmas.List.{map-append}
 use Rattle.cpp_meaning.specs.Text.{File}
-use Rattle.cpp_emit.proofs.BlocksGrow.{drop_at}
+use Rattle.py_built.proofs.UnbuiltSteps.{drop_at}
 use Rattle.cpp_ast.specs.declared.tree.CppModule.{CppModule}
 use Rattle.shed_cli.specs.declared.file.File.{File as FileToWrite}
 use Rattle.shed_cli.specs.Plain.{plain_file, plain_files}

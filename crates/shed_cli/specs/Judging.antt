@@ -1,5 +1,5 @@
 -- What the command finds out before it writes anything, and how statuses are numbered.
-use Rattle.std.specs.Prelude.{◌≡◌, ℕ, ◌<◌, ◌≤◌, List, length, Option, Some, None, ◌⊎◌, string_bytes}
+use Rattle.std.specs.Prelude.{◌≡◌, ℕ, ◌<◌, ◌≤◌, List, ◌++◌, codes, length, Option, Some, None, string_bytes}
 use Rattle.shed_base.specs.Outside.{Rose}
 use Rattle.shed_base.specs.Files.{Files}
 use Rattle.py_meaning.specs.Name.{Name}
@@ -9,7 +9,11 @@ use Rattle.shed_meaning.specs.Words.{reading}
 use Rattle.cpp_meaning.specs.Tree.{Program as CppProgram}
 use Rattle.cpp_meaning.specs.Text.{File}
 use Rattle.shed_meaning.specs.Headline.{Headline}
-use Rattle.shed_meaning.specs.Outcome.{Missing, Unbuilt, message_of, program, GivesModule, Yields}
+use Rattle.shed_meaning.specs.Fault.{HasFault, located}
+use Rattle.py_lexer.specs.PlainTokens.{plain_place}
+use Rattle.shed_cli.specs.Faults.{status_said}
+use Rattle.shed_cli.specs.declared.fault.Fault.{Fault as FaultSaid}
+use Rattle.shed_meaning.specs.Outcome.{Cause, Missing, TooLarge, Faulty, status_of, message_of, program, GivesModule, Yields}
 use Rattle.shed_cli.specs.Plain.{plain_files}
 use Rattle.shed_cli.specs.declared.status.Status.{Status}
 use Rattle.shed_cli.specs.declared.status.Status.TheVariants as status
@@ -30,14 +34,20 @@ number_of status.CppRefused = 9
 number_of status.TicksUsedUp = 10
 number_of status.UndefinedIndex = 11
 
+-- what stands behind a cause that refuses before anything is written
+abbrev pub IsRefusal : List (List ℕ) → Option Files → Cause → Type 0
+IsRefusal words files (Missing name) = (reading words ≡ Some name) × GivesModule files name None
+IsRefusal words files (TooLarge name) =
+    (reading words ≡ Some name) × (text : List ℕ) × GivesModule files name (Some text) × (most_bytes < length text)
+IsRefusal words files (Faulty name fault) =
+    (reading words ≡ Some name) × (text : List ℕ) × GivesModule files name (Some text) × (length text ≤ most_bytes) × HasFault text fault
+IsRefusal words files cause = ⊥
+
 -- what stands behind a judgement on these words and files, where the count of read faults went from one number to another
 abbrev pub Judged : List (List ℕ) → Option Files → ℕ → ℕ → Judgement → Type 0
 Judged words files before now judged.Unread = reading words ≡ None
-Judged words files before now (judged.Missing message) =
-    (name : Name) × (reading words ≡ Some name) × GivesModule files name None × (string_bytes message ≡ message_of (Missing name))
-Judged words files before now (judged.Unbuilt message) =
-    (name : Name) × (reading words ≡ Some name) × (text : List ℕ) × GivesModule files name (Some text)
-    × ((most_bytes < length text) ⊎ ((body : Body) → IsSource text body → ⊥)) × (string_bytes message ≡ message_of (Unbuilt name))
+Judged words files before now (judged.Refused status message) =
+    (cause : Cause) × IsRefusal words files cause × (string_bytes message ≡ message_of cause) × (number_of status ≡ status_of cause)
 Judged words files before now judged.ReadFailed = (name : Name) × (reading words ≡ Some name) × Rose before now
 Judged words files before now judged.OutOfMemory = (name : Name) × (reading words ≡ Some name)
 Judged words files before now (judged.Ready ready) = Yields words files (plain_files ready.items)
@@ -46,31 +56,36 @@ Judged words files before now (judged.Ready ready) = Yields words files (plain_f
 abbrev pub IsTranslation : Name → Body → List File → Type 0
 IsTranslation name body files = (C : CppProgram) × Headline (program name body) C files
 
-abbrev pub IsTooLongOrUnbuilt : List ℕ → Type 0
-IsTooLongOrUnbuilt text = (most_bytes < length text) ⊎ ((body : Body) → IsSource text body → ⊥)
+-- what stands behind a cause that refuses a text
+abbrev pub IsTextRefusal : Name → List ℕ → Cause → Type 0
+IsTextRefusal name text (TooLarge other) = (name ≡ other) × (most_bytes < length text)
+IsTextRefusal name text (Faulty other fault) = (name ≡ other) × (length text ≤ most_bytes) × HasFault text fault
+IsTextRefusal name text cause = ⊥
 
 -- the same of a text that was read
 abbrev pub JudgedText : Name → List ℕ → Judgement → Type 0
 JudgedText name text judged.Unread = ⊥
-JudgedText name text (judged.Missing message) = ⊥
-JudgedText name text (judged.Unbuilt message) = IsTooLongOrUnbuilt text × (string_bytes message ≡ message_of (Unbuilt name))
+JudgedText name text (judged.Refused status message) =
+    (cause : Cause) × IsTextRefusal name text cause × (string_bytes message ≡ message_of cause) × (number_of status ≡ status_of cause)
 JudgedText name text judged.ReadFailed = ⊥
 JudgedText name text judged.OutOfMemory = Unit {0}
-JudgedText name text (judged.Ready ready) = (length text ≤ most_bytes) × (body : Body) × IsSource text body × IsTranslation name body (plain_files ready.items)
+JudgedText name text (judged.Ready ready) =
+    (length text ≤ most_bytes) × (body : Body) × IsSource text body × IsTranslation name body (plain_files ready.items)
 
--- a refusal with a message, or want of memory for it
-abbrev pub IsMissing : Name → Judgement → Type 0
-IsMissing name judged.Unread = ⊥
-IsMissing name (judged.Missing message) = string_bytes message ≡ message_of (Missing name)
-IsMissing name (judged.Unbuilt message) = ⊥
-IsMissing name judged.ReadFailed = ⊥
-IsMissing name judged.OutOfMemory = Unit {0}
-IsMissing name (judged.Ready ready) = ⊥
+-- a refusal for this cause, or want of memory for its message
+abbrev pub RefusesFor : Cause → Judgement → Type 0
+RefusesFor cause judged.Unread = ⊥
+RefusesFor cause (judged.Refused status message) = (string_bytes message ≡ message_of cause) × (number_of status ≡ status_of cause)
+RefusesFor cause judged.ReadFailed = ⊥
+RefusesFor cause judged.OutOfMemory = Unit {0}
+RefusesFor cause (judged.Ready ready) = ⊥
 
-abbrev pub IsUnbuilt : Name → Judgement → Type 0
-IsUnbuilt name judged.Unread = ⊥
-IsUnbuilt name (judged.Missing message) = ⊥
-IsUnbuilt name (judged.Unbuilt message) = string_bytes message ≡ message_of (Unbuilt name)
-IsUnbuilt name judged.ReadFailed = ⊥
-IsUnbuilt name judged.OutOfMemory = Unit {0}
-IsUnbuilt name (judged.Ready ready) = ⊥
+-- a refusal for a fault as the code has it, with its message and its status
+abbrev pub IsFaulty : Name → FaultSaid → Judgement → Type 0
+IsFaulty name f judged.Unread = ⊥
+IsFaulty name f (judged.Refused status message) =
+    (string_bytes message ≡ located name (plain_place f.place) ++ (string_bytes f.said ++ codes "\n"))
+    × (number_of status ≡ status_said f.limit)
+IsFaulty name f judged.ReadFailed = ⊥
+IsFaulty name f judged.OutOfMemory = Unit {0}
+IsFaulty name f (judged.Ready ready) = ⊥

@@ -1,2 +1,3 @@
 pub mod Plain
+pub mod Faults
 pub mod Judging

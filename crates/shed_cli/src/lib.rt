@@ -2,8 +2,10 @@
 #![tactic(auto)]
 
 mod cpp_text;
+mod fault;
 mod file;
 mod judgement;
+mod source;
 mod status;
 mod tables;
 mod top;

@@ -26,7 +26,9 @@ const FILES: [(u64, &str, &str); 5] = [
 const USAGE: &str =
     "usage: shed translate [-l] [-b] [-w] [-o] [-a] [-m FILE] NAME | run [--ticks N] NAME | bulk SEED COUNT\n";
 
-const UNBUILT: &str = "main.py:1:1: P2 Outside unbuilt\n";
+const TOO_DEEP: &str = "main.py:1:1: P2 Outside unbuilt\n";
+
+const TOO_LARGE: &str = "shed: M6 TooLarge main\n";
 
 // Runs the command with words, which spaces part, and gives the number that it ends with.
 fn run(
@@ -81,7 +83,7 @@ fn is_any_written(folder: &MemoryFolder) -> bool {
 }
 
 // A module's name, its text, and one file of its translation.
-const WRITTEN: [(&str, &str, &str, &str); 17] = [
+const WRITTEN: [(&str, &str, &str, &str); 19] = [
     ("main", "", "shed-forward.hpp", FORWARD),
     ("main", "", "main.hpp", HEADER),
     ("main", "", "main.cpp", SOURCE),
@@ -154,6 +156,18 @@ const WRITTEN: [(&str, &str, &str, &str); 17] = [
         "shed types 1\nrounds 1\ntemplate T0 main ()\nfamily F0\ngroup G0 T0\nglobal main.x int {int}\nglobal main.b int {int}\nglobal main.a int {int}\nglobal main.y int {int}\nglobal main._ int {int}\n",
     ),
     (
+        "main",
+        "# a module\n\n\t\nx\t=  0x1F # thirty-one\r\ny = x ; print(y,);\nif x < 0b11: y = 1\nelif x < 0o17:\n\ty = 2\nelse : y = \\\n 1_0",
+        "main.cpp",
+        "#include \"shed-support.hpp\"\n#include \"shed-forward.hpp\"\n#include \"main.hpp\"\nint32_t g_0_x = 0;\nint32_t g_0_y = 0;\nvoid body_main() {\n  shed::str* t_0 = nullptr;\n  g_0_x = 31;\n  g_0_y = g_0_x;\n  t_0 = shed::text_of(g_0_y);\n  shed::write(t_0);\n  shed::write(\"\\012\"_t);\n  if ((g_0_x < 3)) {\n    g_0_y = 1;\n  } else {\n    if ((g_0_x < 15)) {\n      g_0_y = 2;\n    } else {\n      g_0_y = 10;\n    }\n  }\n}\nint main() { return shed::start(&body_main); }\n",
+    ),
+    (
+        "main",
+        "\u{feff}x = - - 1 - \\\r\n 2",
+        "main.cpp",
+        "#include \"shed-support.hpp\"\n#include \"shed-forward.hpp\"\n#include \"main.hpp\"\nint32_t g_0_x = 0;\nvoid body_main() {\n  g_0_x = ((-(-1)) - 2);\n}\nint main() { return shed::start(&body_main); }\n",
+    ),
+    (
         "Z",
         "",
         "Z.hpp",
@@ -181,75 +195,199 @@ fn writes_the_files(rt: HostRuntime) -> Result<(), Fail> {
     Ok(())
 }
 
-const UNBUILT_TEXTS: [&str; 38] = [
-    "# comment\n",
-    "\tx = 1\n",
-    "x =\t1\n",
-    "x = 1\r\n",
-    "x = 1",
-    "x = y\n",
-    "x = x\n",
-    "x = 1__0\n",
-    "x = 007\n",
-    "x = 2147483648\n",
-    "print()\n",
-    "print(1, 2)\n",
-    "print(1,)\n",
-    "print = 1\n",
-    "  x = 1\n",
-    "x = \u{e4}\n",
-    "x = (1)\n",
-    "x-=1\n",
-    "x = 1**2\n",
-    "x = 1\nelse:\n  x = 2\n",
-    "x = 1\nif x < 2:\n  x = 2\nelif x < 3:\n  x = 3\n",
-    "x = 1\nwhile x < 2:\n  x = 2\nelse:\n  x = 3\n",
-    "x = 1\nif x < 2: x = 2\n",
-    "x = 1\nif x < 2:\nx = 2\n",
-    "x = 1\nwhile x < 2:\n",
-    "x = 1\nif x < 2:\n  x = 2\nelse:\nx = 3\n",
-    "x = 1\nif x < 2:\n  pass\n",
-    "x = 1\n  x = 2\n",
-    "x = 1\nif x < 2:\n  x = 2\n    x = 3\n",
-    "x = 1\nif x < 2:\n    x = 2\n  x = 3\n",
-    "x = 1\nif x < 2:\n\tx = 2\n",
-    "x = 1\nif x:\n  x = 2\n",
-    "x = 1\nif x < 2\n  x = 2\n",
-    "x = 1\nif 0 < x < 3:\n  x = 2\n",
-    "x = 1 < 2\n",
-    "x = 1\nif x < 2:\n  y = 1\nprint(y)\n",
-    "x = 1\nif x < 2:\n  y = 1\n  print(y)\n",
-    "x = 1\nwhile y < 2:\n  y = 1\n",
+// A text, the number that its translation ends with, and what is said.
+const REFUSED: [(&[u8], u8, &str); 68] = [
+    (b"a = 1\n\xff", 3, "main.py:2:1: L1 NotUtf8\n"),
+    (b"x = $\n", 3, "main.py:1:5: L2 BadCharacter\n"),
+    (b"x = 1__0\n", 3, "main.py:1:6: P1 Unexpected __0\n"),
+    (b"x = 007\n", 3, "main.py:1:7: L2 BadCharacter\n"),
+    (
+        b"x = 1\nif x < 2:\n    x = 2\n  x = 3\n",
+        3,
+        "main.py:4:3: L3 BadIndent\n",
+    ),
+    (
+        b"if 1:\n\tx = 1\n        y = 2\n",
+        3,
+        "main.py:3:9: L4 MixedTabs\n",
+    ),
+    (b"x = 'a\n", 3, "main.py:1:5: L5 UnclosedText\n"),
+    (b"print((1", 3, "main.py:1:7: L6 UnclosedBracket\n"),
+    (b"x = 'a\\x1'\n", 3, "main.py:1:7: L7 BadEscape\n"),
+    (b"x = 2147483648\n", 3, "main.py:1:5: L8 WideNumber\n"),
+    (b"x = 'a\xc3\xa4'\n", 3, "main.py:1:7: L9 NonAsciiText\n"),
+    (b"x = e\xcc\x81\n", 3, "main.py:1:5: L10 NotNormal\n"),
+    (b"x 7\n", 3, "main.py:1:3: P1 Unexpected 7\n"),
+    (b"x 0x1F\n", 3, "main.py:1:3: P1 Unexpected 31\n"),
+    (b"x y\n", 3, "main.py:1:3: P1 Unexpected y\n"),
+    (b"x \xc3\xa4\n", 3, "main.py:1:3: P1 Unexpected \u{e4}\n"),
+    (b"x def\n", 3, "main.py:1:3: P1 Unexpected def\n"),
+    (b"x = //\n", 3, "main.py:1:5: P1 Unexpected //\n"),
+    (b"x 'a'\n", 3, "main.py:1:3: P1 Unexpected 'a'\n"),
+    (b"x 'a' \"b\"\n", 3, "main.py:1:3: P1 Unexpected 'ab'\n"),
+    (b"x \"a'\"\n", 3, "main.py:1:3: P1 Unexpected \"a'\"\n"),
+    (
+        b"x \"a'\" '\"'\n",
+        3,
+        "main.py:1:3: P1 Unexpected 'a\\'\"'\n",
+    ),
+    (
+        b"x '\\t\\n\\r\\\\\\x01\\x1f\\x7f~'\n",
+        3,
+        "main.py:1:3: P1 Unexpected '\\t\\n\\r\\\\\\x01\\x1f\\x7f~'\n",
+    ),
+    (b"x 1.5\n", 3, "main.py:1:3: P1 Unexpected float\n"),
+    (b"x 2j\n", 3, "main.py:1:3: P1 Unexpected imaginary\n"),
+    (b"x b'a'\n", 3, "main.py:1:3: P1 Unexpected bytes\n"),
+    (b"x f'a'\n", 3, "main.py:1:3: P1 Unexpected fstring\n"),
+    (b"x =\n", 3, "main.py:1:4: P1 Unexpected NEWLINE\n"),
+    (b"\tx = 1\n", 3, "main.py:1:2: P1 Unexpected INDENT\n"),
+    (b"  x = 1\n", 3, "main.py:1:3: P1 Unexpected INDENT\n"),
+    (
+        b"x = 1\n  x = 2\n",
+        3,
+        "main.py:2:3: P1 Unexpected INDENT\n",
+    ),
+    (
+        b"if x:\n try:\n  x = 2\n y = 1\n",
+        3,
+        "main.py:4:2: P1 Unexpected y\n",
+    ),
+    (
+        b"if x:\n try:\n  x = 2\ny = 1\n",
+        3,
+        "main.py:4:1: P1 Unexpected DEDENT\n",
+    ),
+    (
+        b"x = 1\nwhile x < 2:\n",
+        3,
+        "main.py:2:13: P1 Unexpected END\n",
+    ),
+    (
+        b"x = 1\nelse:\n  x = 2\n",
+        3,
+        "main.py:2:1: P1 Unexpected else\n",
+    ),
+    (
+        b"x = 1\nif x < 2:\nx = 2\n",
+        3,
+        "main.py:3:1: P1 Unexpected x\n",
+    ),
+    (
+        b"x = 1\nif x < 2:\n  x = 2\nelse:\nx = 3\n",
+        3,
+        "main.py:5:1: P1 Unexpected x\n",
+    ),
+    (
+        b"x = 1\nif x < 2\n  x = 2\n",
+        3,
+        "main.py:2:9: P1 Unexpected NEWLINE\n",
+    ),
+    (b"x = y\n", 3, "main.py:1:5: P2 Outside unbuilt\n"),
+    (b"x = x\n", 3, "main.py:1:5: P2 Outside unbuilt\n"),
+    (b"x = \xc3\xa4\n", 3, "main.py:1:5: P2 Outside unbuilt\n"),
+    (b"\xc3\xa4 = 1\n", 3, "main.py:1:1: P2 Outside unbuilt\n"),
+    (b"x = (1)\n", 3, "main.py:1:5: P2 Outside unbuilt\n"),
+    (b"x = 'a'\n", 3, "main.py:1:5: P2 Outside unbuilt\n"),
+    (b"x = 1 ** 2\n", 3, "main.py:1:7: P2 Outside unbuilt\n"),
+    (b"x = 1 < 2\n", 3, "main.py:1:7: P2 Outside unbuilt\n"),
+    (b"x = + 1\n", 3, "main.py:1:5: P2 Outside unbuilt\n"),
+    (b"x-=1\n", 3, "main.py:1:1: P2 Outside unbuilt\n"),
+    (b"x = y = 1\n", 3, "main.py:1:1: P2 Outside unbuilt\n"),
+    (b"print()\n", 3, "main.py:1:1: P2 Outside unbuilt\n"),
+    (b"print(1, 2)\n", 3, "main.py:1:1: P2 Outside unbuilt\n"),
+    (b"print = 1\n", 3, "main.py:1:1: P2 Outside unbuilt\n"),
+    (b"__name__ = 1\n", 3, "main.py:1:1: P2 Outside unbuilt\n"),
+    (
+        b"x = 1; print(x); pass\n",
+        3,
+        "main.py:1:18: P2 Outside unbuilt\n",
+    ),
+    (
+        b"x = 1\nif x < 2:\n  pass\n",
+        3,
+        "main.py:3:3: P2 Outside unbuilt\n",
+    ),
+    (
+        b"x = 1\nif x:\n  x = 2\n",
+        3,
+        "main.py:2:4: P2 Outside unbuilt\n",
+    ),
+    (
+        b"x = 1\nif 0 < x < 3:\n  x = 2\n",
+        3,
+        "main.py:2:6: P2 Outside unbuilt\n",
+    ),
+    (
+        b"x = 1\nif x < 2:\n  y = 1\nprint(y)\n",
+        3,
+        "main.py:4:7: P2 Outside unbuilt\n",
+    ),
+    (
+        b"x = 1\nif x < 2:\n  y = 1\n  print(y)\n",
+        3,
+        "main.py:4:9: P2 Outside unbuilt\n",
+    ),
+    (
+        b"x = 1\nwhile y < 2:\n  y = 1\n",
+        3,
+        "main.py:2:7: P2 Outside unbuilt\n",
+    ),
+    (
+        b"x = 1\nwhile x < 2: print(y)\nprint(z)\n",
+        3,
+        "main.py:2:20: P2 Outside unbuilt\n",
+    ),
+    (b"x = y * (1)\n", 3, "main.py:1:5: P2 Outside unbuilt\n"),
+    (b"x = y ** (1)\n", 3, "main.py:1:5: P2 Outside unbuilt\n"),
+    (b"x = y\n$\n", 3, "main.py:2:1: L2 BadCharacter\n"),
+    (b"x = y\n1 2\n", 3, "main.py:2:3: P1 Unexpected 2\n"),
+    (b"1 2\n$\n", 3, "main.py:2:1: L2 BadCharacter\n"),
+    (b"$\n\xff\n", 3, "main.py:2:1: L1 NotUtf8\n"),
+    (
+        b"def f(x):\n    return x\n",
+        3,
+        "main.py:1:1: P2 Outside unbuilt\n",
+    ),
 ];
 
-// Whether a text is refused, and nothing written.
-fn is_refused(rt: &HostRuntime, text: &str) -> Result<bool, Fail> {
-    let mut folder = folder_with(rt, "main.py", text)?;
-    let is_told = ends(rt, "translate main", &mut folder, 3, UNBUILT)?;
-    Ok(is_told && !is_any_written(&folder) && holds(&folder, "main.py", text))
+// Whether a text is refused in this way, and nothing written.
+fn is_refused(rt: &HostRuntime, text: &[u8], want: u8, said: &str) -> Result<bool, Fail> {
+    let mut folder = MemoryFolder::new(rt.alloc(), Vec::new(rt.alloc()));
+    folder.put("main.py", text)?;
+    let is_told = ends(rt, "translate main", &mut folder, want, said)?;
+    Ok(is_told && !is_any_written(&folder) && folder.file("main.py") == Some(text))
 }
 
 #[test]
-fn refuses_what_is_unbuilt(rt: HostRuntime) -> Result<(), Fail> {
-    for text in UNBUILT_TEXTS {
-        let is_refused = is_refused(&rt, text)?;
-        assert!(rt; is_refused, "at {text:?}");
+fn refuses_texts(rt: HostRuntime) -> Result<(), Fail> {
+    for (text, want, said) in REFUSED {
+        let is_refused = is_refused(&rt, text, want, said)?;
+        assert!(rt; is_refused, "at {text:?}: {said}");
     }
     Ok(())
 }
 
 // What comes before, how many times a piece, what comes behind, the number that it ends with, and what is said.
-const LIMITS: [(&str, usize, &str, &str, u8, &str); 10] = [
+const LIMITS: [(&str, usize, &str, &str, u8, &str); 11] = [
     ("x = ", 99, "-", "1\n", 0, ""),
-    ("x = ", 100, "-", "1\n", 3, UNBUILT),
+    ("x = ", 100, "-", "1\n", 3, TOO_DEEP),
     ("x = 1", 99, " + 1", "\n", 0, ""),
-    ("x = 1", 100, " + 1", "\n", 3, UNBUILT),
+    ("x = 1", 100, " + 1", "\n", 3, TOO_DEEP),
     ("print(", 98, "-", "1)\n", 0, ""),
-    ("print(", 99, "-", "1)\n", 3, UNBUILT),
-    ("", 1048576, "\n", "", 0, ""),
-    ("", 1048577, "\n", "", 3, UNBUILT),
-    ("x=1\n", 174762, "x = 1\n", "", 0, ""),
-    ("x =1\n", 174762, "x = 1\n", "", 3, UNBUILT),
+    ("print(", 99, "-", "1)\n", 3, TOO_DEEP),
+    ("", 1000, "a", " = 1\n", 0, ""),
+    (
+        "x = 1; ",
+        1001,
+        "a",
+        " = 1\n",
+        5,
+        "main.py:1:8: L11 TooLong\n",
+    ),
+    ("x=1\n", 1048572, "\n", "", 0, ""),
+    ("x =1\n", 1048572, "\n", "", 5, TOO_LARGE),
+    ("$", 1048576, "\n", "", 5, TOO_LARGE),
 ];
 
 #[test]
@@ -284,7 +422,7 @@ fn nested(rt: &HostRuntime, depth: usize) -> Result<String, Fail> {
 
 #[test]
 fn keeps_the_limit_of_blocks(rt: HostRuntime) -> Result<(), Fail> {
-    for (depth, want, said) in [(20, 0, ""), (99, 0, ""), (100, 3, UNBUILT)] {
+    for (depth, want, said) in [(20, 0, ""), (99, 0, ""), (100, 3, TOO_DEEP)] {
         let text = nested(&rt, depth)?;
         let mut folder = folder_with(&rt, "main.py", text.as_str())?;
         let is_told = ends(&rt, "translate main", &mut folder, want, said)?;

@@ -58,8 +58,7 @@ fn carry_out<F: Folder, O: Sink, E: Sink>(
 {
     match judge(alloc, words, folder) {
         Judgement::Unread => report(err, USAGE, Status::WordsRefused),
-        Judgement::Missing(message) => report(err, message.as_str(), Status::SourceRefused),
-        Judgement::Unbuilt(message) => report(err, message.as_str(), Status::SourceRefused),
+        Judgement::Refused(status, message) => report(err, message.as_str(), status),
         Judgement::ReadFailed => report(err, "shed: read fault\n", Status::ReadFault),
         Judgement::OutOfMemory => report(err, "shed: no memory\n", Status::NoMemory),
         Judgement::Ready(files) => match write_files(folder, files.as_slice()) {

@@ -1,24 +1,28 @@
 //! From the words and the folder to the files that are to be written.
 
-ghost use Rattle.std.specs.Prelude.{◌≡◌, ◌≤◌, [], true, map, string_bytes, IfOk, IsErrOf, option_map, vec_items};
-ghost use Rattle.py_parser.specs.PlainTrees.{plain as plain_source};
+ghost use Rattle.std.specs.Prelude.{◌≡◌, ◌≤◌, ◌++◌, [], true, codes, map, string_bytes, IfOk, IsErrOf, option_map, vec_items};
+ghost use Rattle.py_built.specs.PlainTrees.{plain as plain_source};
+ghost use Rattle.shed_meaning.specs.Fault.{located};
 ghost use Rattle.py_meaning.specs.Rules.{are_reads_sure};
 ghost use Rattle.shed_base.specs.Outside.{Rose};
-ghost use Rattle.shed_meaning.specs.Outcome.{GivesModule};
+ghost use Rattle.shed_meaning.specs.Outcome.{GivesModule, Missing, TooLarge};
+ghost use Rattle.shed_cli.specs.Judging.{IsFaulty};
+ghost use Rattle.py_lexer.specs.PlainTokens.{plain_place};
 ghost use Rattle.shed_cli.specs.Plain.{plain_files};
-ghost use Rattle.shed_cli.specs.Judging.{Judged, JudgedText, IsMissing, IsUnbuilt, IsTranslation};
+ghost use Rattle.shed_cli.specs.Judging.{Judged, JudgedText, RefusesFor, IsTranslation};
 
 use crate::cpp_text::{cpp_files, file_name};
+use crate::fault::Fault;
 use crate::file::File;
 use crate::judgement::Judgement;
+use crate::source::read_source;
+use crate::status::Status;
 use crate::tables::{make_file, types_table};
 use crate::words::read_words;
 use cpp_emit::emit;
-use py_parser::parse;
-use py_parser::refusal::ParseRefusal;
-use py_parser::tree::Module;
+use py_built::tree::Module;
 use shed_base::{Folder, IoRefusal, NoMemory};
-use std::alloc::Global;
+use std::alloc::{AllocError, Global};
 
 // The most bytes of a module.
 const MOST_BYTES: usize = 1_048_576;
@@ -64,15 +68,15 @@ fn judge_text(alloc: Global, name: &str, text: &[u8]) -> Judgement
     ensures { JudgedText name.now text.now result }
 {
     if text.len() > MOST_BYTES {
-        return unbuilt(alloc, name);
+        return too_large(alloc, name);
     }
-    match parse(alloc, text) {
-        Ok(module) => match translate(alloc, &module, name) {
+    match read_source(alloc, text) {
+        Ok(Ok(module)) => match translate(alloc, &module, name) {
             Ok(files) => Judgement::Ready(files),
             Err(_) => Judgement::OutOfMemory,
         },
-        Err(ParseRefusal::Outside(..)) => unbuilt(alloc, name),
-        Err(ParseRefusal::NoMemory) => Judgement::OutOfMemory,
+        Ok(Err(fault)) => faulty(alloc, name, &fault),
+        Err(_) => Judgement::OutOfMemory,
     }
 }
 
@@ -88,19 +92,42 @@ fn translate(alloc: Global, module: &Module, name: &str) -> Result<Vec<File>, No
 }
 
 fn missing(alloc: Global, name: &str) -> Judgement
-    ensures { IsMissing name.now result }
+    ensures { RefusesFor (Missing name.now) result }
 {
     match format!(in alloc; "{name}.py: M1 Missing {name}\n") {
-        Ok(message) => Judgement::Missing(message),
+        Ok(message) => Judgement::Refused(Status::SourceRefused, message),
         Err(_) => Judgement::OutOfMemory,
     }
 }
 
-fn unbuilt(alloc: Global, name: &str) -> Judgement
-    ensures { IsUnbuilt name.now result }
+fn too_large(alloc: Global, name: &str) -> Judgement
+    ensures { RefusesFor (TooLarge name.now) result }
 {
-    match format!(in alloc; "{name}.py:1:1: P2 Outside unbuilt\n") {
-        Ok(message) => Judgement::Unbuilt(message),
+    match format!(in alloc; "shed: M6 TooLarge {name}\n") {
+        Ok(message) => Judgement::Refused(Status::LimitPassed, message),
         Err(_) => Judgement::OutOfMemory,
     }
+}
+
+fn faulty(alloc: Global, name: &str, fault: &Fault) -> Judgement
+    ensures { IsFaulty name.now fault.now result }
+{
+    let status = if fault.limit {
+        Status::LimitPassed
+    } else {
+        Status::SourceRefused
+    };
+    match message(alloc, name, fault) {
+        Ok(message) => Judgement::Refused(status, message),
+        Err(_) => Judgement::OutOfMemory,
+    }
+}
+
+fn message(alloc: Global, name: &str, fault: &Fault) -> Result<String, AllocError>
+    ensures { IfOk result (λ m. string_bytes m ≡ located name.now (plain_place fault.now.place) ++ (string_bytes fault.now.said ++ codes "\n")) }
+{
+    let line = fault.place.line;
+    let column = fault.place.column;
+    let said = fault.said.as_str();
+    format!(in alloc; "{name}.py:{line}:{column}: {said}\n")
 }

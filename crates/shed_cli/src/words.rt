@@ -2,11 +2,55 @@
 
 ghost use Rattle.std.specs.Prelude.{◌≡◌, [], ◌∷◌, map, string_bytes};
 ghost use Rattle.std.specs.Option.{option_copied};
-ghost use Rattle.py_meaning.specs.Lexer.{is_name_part as is_name_byte};
+ghost use Rattle.py_tokens.specs.Lexeme.{keywords};
 ghost use Rattle.std.specs.List.{list_all};
-ghost use Rattle.shed_meaning.specs.Words.{without_ending, is_keyword as is_word_of_language, is_module_name as is_name_of_module, named, reading};
+ghost use Rattle.shed_meaning.specs.Words.{is_name_part as is_name_byte, without_ending, is_keyword as is_word_of_language, is_module_name as is_name_of_module, named, reading};
 
-use py_parser::{is_barred, is_name_part};
+/// The keywords of Python.
+const KEYWORDS: [&[u8]; 35] = [
+    b"False",
+    b"None",
+    b"True",
+    b"and",
+    b"as",
+    b"assert",
+    b"async",
+    b"await",
+    b"break",
+    b"class",
+    b"continue",
+    b"def",
+    b"del",
+    b"elif",
+    b"else",
+    b"except",
+    b"finally",
+    b"for",
+    b"from",
+    b"global",
+    b"if",
+    b"import",
+    b"in",
+    b"is",
+    b"lambda",
+    b"nonlocal",
+    b"not",
+    b"or",
+    b"pass",
+    b"raise",
+    b"return",
+    b"try",
+    b"while",
+    b"with",
+    b"yield",
+];
+
+/// Whether a byte may stand in an ASCII name: a letter, a digit or `_`.
+fn is_name_part(b: u8) -> bool
+    ensures { result ≡ is_name_byte b }
+{
+    b.is_ascii_alphanumeric() || b == b'_'
+}
 
 /// The name of the module to translate, where the words say one.
 pub fn read_words(words: &[String]) -> Option<&str>
@@ -73,5 +117,12 @@ fn are_name_parts(bytes: &[u8]) -> bool
 fn is_keyword(word: &[u8]) -> bool
     ensures { result ≡ is_word_of_language word.now }
 {
-    is_barred(word) && word != b"__name__".as_slice()
+    let mut words: &[&[u8]] = &KEYWORDS;
+    while let [first, rest @ ..] = words {
+        if *first == word {
+            return true;
+        }
+        words = rest;
+    }
+    false
 }

@@ -3,7 +3,7 @@ use Rattle.std.proofs.Common.{◌≡◌, ℕ, List, [], ◌∷◌, length, refl,
 use Rattle.std.specs.Fmt.{digits}
 use Rattle.runs.specs.Number.{W32}
 use Rattle.py_meaning.specs.Name.{Name}
-use Rattle.py_meaning.specs.Token.{Place}
+use Rattle.py_tokens.specs.Token.{Place}
 use Rattle.py_meaning.specs.Tree.{Add, LessThan, EName, ENumber, EBinary, CCompare, SAssign, SPrint, SWhile, Body, none, more}
 use Rattle.py_meaning.specs.Program.{Program as Source}
 use Rattle.cpp_meaning.specs.Tree.{Int32, ZeroNumber, Stmt as CppStmt, Declare, If, IfElse, While, Extern, Variable, Module, none as no_statements, more as and_then}

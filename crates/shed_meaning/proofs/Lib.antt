@@ -4,4 +4,5 @@ mod WordVectors
 pub mod LayoutVectors
 pub mod HeadlineVectors
 mod RunVectors
+pub mod FaultsExcluded
 mod OutcomeVectors

@@ -1,18 +1,25 @@
 -- What some runs of the command come to, and what they cannot come to.
-use Rattle.std.proofs.Common.{◌≡◌, ℕ, ◌<◌, List, [], ◌∷◌, length, take, Option, Some, None, inl, inr, ◌⊎◌, refl, sym, ap, ◌∙◌, subst, codes, lit≤, not-le_of_lt}
+use Rattle.std.proofs.Common.{◌≡◌, ℕ, ◌<◌, ◌≤◌, List, [], ◌∷◌, length, take, drop, Option, Some, None, inl, inr, refl, sym, ap, ◌∙◌, ◌++◌, replicate, subst, codes, lit≤, lit<, true, not-le_of_lt}
 use Rattle.std.specs.Prelude.{option_map}
+use Rattle.std.specs.Fmt.{digits}
 use Rattle.std.specs.FinMap as map
+use Rattle.std.proofs.lemmas.List.{length-take-le}
+use Rattle.runs.specs.Number.{W32}
+use Rattle.py_tokens.specs.Token.{Place, BadCharacter, TooLong, Tokens}
+use Rattle.py_tokens.specs.Tokens.{tokens_of_characters, beginning, unmarked}
+use Rattle.py_syntax.specs.Laws.{IsLongestFront}
 use Rattle.shed_base.specs.Files.{Files, with_file}
 use Rattle.shed_base.proofs.WrittenFiles.{file_of-with_file, file_of-empty}
-use Rattle.py_meaning.specs.Tree.{Body}
-use Rattle.py_meaning.specs.Source.{IsSource, most_bytes}
-use Rattle.py_meaning.proofs.SourceVectors.{sum_text, sum_body, sum_is_source, unset}
+use Rattle.py_meaning.specs.Source.{IsSource, most_bytes, names_of, grammar_tokens}
+use Rattle.py_meaning.proofs.SourceVectors.{at, is_ascii, ascii_tokens, tokens, tree, spelt_text, read_text, longest_front, sum_text, sum_body, sum_is_source}
 use Rattle.cpp_meaning.specs.Text.{File}
 use Rattle.cpp_meaning.proofs.TreeVectors.{sum}
 use Rattle.shed_meaning.specs.Headline.{written}
-use Rattle.shed_meaning.specs.Outcome.{World, Translated, Unread, Missing, Unbuilt, ReadFailed, WriteFailed, OutOfMemory, GivesModule, Spells, Yields, with_files, message_of, Says, Tells, Holds, Cause, Ends}
+use Rattle.shed_meaning.specs.Fault.{Fault, BadToken, Unexpected, TooDeep, Unbuilt, HasFault, place_at, said_at, fault_text, fault_status}
+use Rattle.shed_meaning.specs.Outcome.{World, Translated, Unread, Missing, TooLarge, Faulty, ReadFailed, WriteFailed, OutOfMemory, GivesModule, Spells, Yields, with_files, message_of, Says, Tells, Holds, Cause, Ends}
 use Rattle.shed_meaning.proofs.LayoutVectors.{sum_source}
 use Rattle.shed_meaning.proofs.HeadlineVectors.{sum_headline}
+use Rattle.shed_meaning.proofs.FaultsExcluded.{no_fault}
 
 abbrev words : List (List ℕ)
 words = codes "translate" ∷ codes "main" ∷ []
@@ -88,9 +95,99 @@ unread held = record { cause = Unread; holds = (refl, refl); tells = inl (refl, 
 not_there : Ends words (world map.empty []) (world map.empty (codes "main.py: M1 Missing main\n")) 3
 not_there = record { cause = Missing (codes "main"); holds = (refl, missing, refl); tells = inl (refl, refl); out = refl }
 
--- print(y)
-unbuilt : Ends words (world (folder (codes "print(y)\n")) []) (world (folder (codes "print(y)\n")) (codes "main.py:1:1: P2 Outside unbuilt\n")) 3
-unbuilt = record { cause = Unbuilt (codes "main"); holds = (refl, codes "print(y)\n", given (codes "print(y)\n") refl, inr unset, refl); tells = inl (refl, refl); out = refl }
+-- more bytes than a module may have, whatever they are
+too_large : (text : List ℕ) → most_bytes < length text → Ends words (world (folder text) []) (world (folder text) (codes "shed: M6 TooLarge main\n")) 5
+too_large text long =
+    let front = ap (λ (o : Option (List ℕ)). Some (option_map (λ (bytes : List ℕ). take 1048577 bytes) o)) (file_of-with_file map.empty (codes "main.py") text) in
+    let cut : length (take 1048577 text) ≡ 1048577 = length-take-le 1048577 text long in
+    record {
+      cause = TooLarge (codes "main");
+      holds = (refl, take 1048577 text, front, subst (λ (n : ℕ). most_bytes < n) (sym cut) (lit< tt), refl);
+      tells = inl (refl, refl);
+      out = refl;
+    }
+
+-- the module has this text and this fault
+refused : (text : List ℕ) (fault : Fault) → take 1048577 text ≡ text → length text ≤ most_bytes → HasFault text fault
+    → Ends words (world (folder text) []) (world (folder text) (fault_text (codes "main") fault)) (fault_status fault)
+refused text fault all short has = record { cause = Faulty (codes "main") fault; holds = (refl, text, given text all, short, has, refl); tells = said fault; out = refl }
+  where
+    said : (f : Fault) → Tells (world (folder text) []) (world (folder text) (fault_text (codes "main") f)) (Faulty (codes "main") f) (fault_status f)
+    said f = inl (refl, refl)
+
+-- x = $
+bad_character_text : List ℕ
+bad_character_text = codes "x = $\n"
+
+bad_character : Ends words (world (folder bad_character_text) []) (world (folder bad_character_text) (codes "main.py:1:5: L2 BadCharacter\n")) 3
+unfolding bad_character_text digits lib.Utf8.encode
+bad_character = refused bad_character_text (BadToken BadCharacter (at 1 5)) refl (lit≤ tt) (ascii_tokens bad_character_text refl ∙ refl)
+
+-- a name of 1001 letters
+too_long_text : List ℕ
+too_long_text = codes "x = " ++ (replicate 1001 97 ++ codes "\n")
+
+too_long : Ends words (world (folder too_long_text) []) (world (folder too_long_text) (codes "main.py:1:5: L11 TooLong\n")) 5
+unfolding too_long_text digits lib.Utf8.encode
+too_long = refused too_long_text (BadToken TooLong (at 1 5)) refl (lit≤ tt) (ascii_tokens too_long_text refl ∙ refl)
+
+-- where the longest front of the tokens has so many of them, the next one is said
+stuck : (k : ℕ) (text : List ℕ) (p : Place) (said : List ℕ) → is_ascii text ≡ true → tokens_of_characters W32 (beginning 0) (unmarked text) ≡ Tokens (tokens text)
+    → IsLongestFront (take k (grammar_tokens (tokens text))) (drop k (grammar_tokens (tokens text)))
+    → p ≡ place_at (tokens text) (drop k (tokens text)) → said ≡ said_at (drop k (tokens text)) → HasFault text (Unexpected p said)
+stuck k text p said a lexed longest place words = (
+  tokens text,
+  ascii_tokens text a ∙ lexed,
+  record { count = k; longest = longest; place = place; words = words },
+)
+
+-- no value stands behind `=`
+no_value_text : List ℕ
+no_value_text = codes "x = \n"
+
+no_value : Ends words (world (folder no_value_text) []) (world (folder no_value_text) (codes "main.py:1:5: P1 Unexpected NEWLINE\n")) 3
+unfolding no_value_text digits lib.Utf8.encode
+no_value = refused no_value_text (Unexpected (at 1 5) (codes "NEWLINE")) refl (lit≤ tt) (stuck 2 no_value_text _ _ refl refl (longest_front 400 2 no_value_text refl) refl refl)
+
+-- a branch with nothing in it: the end has the place of the last token, which is a NEWLINE
+no_block_text : List ℕ
+no_block_text = codes "if 1 < 2:\n"
+
+no_block : Ends words (world (folder no_block_text) []) (world (folder no_block_text) (codes "main.py:1:10: P1 Unexpected END\n")) 3
+unfolding no_block_text digits lib.Utf8.encode
+no_block = refused no_block_text (Unexpected (at 1 10) (codes "END")) refl (lit≤ tt) (stuck 6 no_block_text _ _ refl refl (longest_front 400 6 no_block_text refl) refl refl)
+
+-- a text behind a name is said as `repr` has it
+text_behind_text : List ℕ
+text_behind_text = codes "x = 1\nx 'it\\'s'\n"
+
+text_behind : Ends words (world (folder text_behind_text) []) (world (folder text_behind_text) (codes "main.py:2:3: P1 Unexpected \"it's\"\n")) 3
+unfolding text_behind_text digits lib.Utf8.encode
+text_behind = refused text_behind_text (Unexpected (at 2 3) (codes "\"it's\"")) refl (lit≤ tt) (stuck 5 text_behind_text _ _ refl refl (longest_front 400 5 text_behind_text refl) refl refl)
+
+-- a number below a hundred signs and their statement
+too_deep_text : List ℕ
+too_deep_text = codes "x = " ++ (replicate 100 45 ++ codes "1\n")
+
+too_deep : Ends words (world (folder too_deep_text) []) (world (folder too_deep_text) (codes "main.py:1:1: P2 Outside unbuilt\n")) 3
+unfolding too_deep_text digits lib.Utf8.encode
+too_deep = refused too_deep_text TooDeep refl (lit≤ tt) (record {
+  tokens = tokens too_deep_text;
+  lexed = ascii_tokens too_deep_text refl ∙ refl;
+  tree = tree 2000 too_deep_text;
+  spelt = spelt_text 2000 too_deep_text refl;
+  deep = λ shallow. not-le_of_lt (lit< tt) shallow;
+})
+
+-- print(y), where y is unset
+unset_text : List ℕ
+unset_text = codes "print(y)\n"
+
+unset : Ends words (world (folder unset_text) []) (world (folder unset_text) (codes "main.py:1:7: P2 Outside unbuilt\n")) 3
+unfolding unset_text digits lib.Utf8.encode
+unset =
+    refused unset_text (Unbuilt (at 1 7)) refl (lit≤ tt)
+    (tree 400 unset_text, names_of (tokens unset_text), read_text 400 unset_text refl refl refl (lit≤ tt), refl)
 
 -- err takes four bytes of the message, and its next write fails
 half_told : Ends words (world map.empty []) (record { files = Some map.empty; out = Some []; err = Some (codes "main"); read_faults = 0; write_faults = 0; err_faults = 1 }) 7
@@ -107,9 +204,10 @@ not_said old new before now message wanted status w f m (inl s) = w s.0
 not_said old new before now message wanted status w f m (inr (inl s)) = f s.0
 not_said old new before now message wanted status w f m (inr (inr s)) = m s.0
 
--- the module `x = 1`, `print(x + 2)` is never called unbuilt or missing
-translatable : (new : World) → Ends words (world (folder sum_text) []) new 3 → ⊥
-translatable new end = at end.cause end.holds end.tells
+-- the module `x = 1`, `print(x + 2)` is never refused, missing or too large
+not_refused : (new : World) (status : ℕ) → (status ≡ 0 → ⊥) → (status ≡ 2 → ⊥) → (status ≡ 6 → ⊥) → (status ≡ 7 → ⊥) → (status ≡ 8 → ⊥)
+    → Ends words (world (folder sum_text) []) new status → ⊥
+not_refused new status no0 no2 no6 no7 no8 end = at end.cause end.holds end.tells
   where
     as_main : (name : List ℕ) (found : Option (List ℕ)) → Some (codes "main") ≡ Some name → GivesModule (Some (folder sum_text)) name found → Some sum_text ≡ found
     as_main name found e g =
@@ -118,18 +216,25 @@ translatable new end = at end.cause end.holds end.tells
         let both : Some (Some sum_text) ≡ Some found = sym (given sum_text refl) ∙ as_well in
         cc both
 
-    is_built : (text : List ℕ) → sum_text ≡ text → (most_bytes < length text) ⊎ ((body : Body) → IsSource text body → ⊥) → ⊥
-    is_built text e (inl long) = not-le_of_lt (subst (λ (t : List ℕ). most_bytes < length t) (sym e) long) (lit≤ tt)
-    is_built text e (inr none) = none sum_body (subst (λ (t : List ℕ). IsSource t sum_body) e sum_is_source)
+    is_short : (text : List ℕ) → sum_text ≡ text → most_bytes < length text → ⊥
+    is_short text e long = not-le_of_lt (subst (λ (t : List ℕ). most_bytes < length t) (sym e) long) (lit≤ tt)
 
-    at : (c : Cause) → Holds words (world (folder sum_text) []) new c → Tells (world (folder sum_text) []) new c 3 → ⊥
-    at Translated h t = cc (t.0)
+    at : (c : Cause) → Holds words (world (folder sum_text) []) new c → Tells (world (folder sum_text) []) new c status → ⊥
+    at Translated h t = no0 t.0
     at Unread h t = cc (h.0)
     at (Missing name) h t = cc (as_main name None h.0 h.1)
-    at (Unbuilt name) h t = is_built h.1 (cc (as_main name (Some h.1) h.0 h.2)) h.3
-    at ReadFailed h t = not_said (Some []) new.err 0 new.err_faults (message_of ReadFailed) 6 3 (λ e. cc e) (λ e. cc e) (λ e. cc e) t
-    at WriteFailed h t = not_said (Some []) new.err 0 new.err_faults (message_of WriteFailed) 7 3 (λ e. cc e) (λ e. cc e) (λ e. cc e) t
-    at OutOfMemory h t = not_said (Some []) new.err 0 new.err_faults (message_of OutOfMemory) 8 3 (λ e. cc e) (λ e. cc e) (λ e. cc e) t
+    at (TooLarge name) h t = is_short h.1 (cc (as_main name (Some h.1) h.0 h.2)) h.3
+    at (Faulty name fault) h t =
+        let text : sum_text ≡ h.1 = cc (as_main name (Some h.1) h.0 h.2) in no_fault h.1 sum_body fault (subst (λ (t : List ℕ). IsSource t sum_body) text sum_is_source) h.4
+    at ReadFailed h t = not_said (Some []) new.err 0 new.err_faults (message_of ReadFailed) 6 status no6 no7 no8 t
+    at WriteFailed h t = not_said (Some []) new.err 0 new.err_faults (message_of WriteFailed) 7 status no7 no7 no8 t
+    at OutOfMemory h t = not_said (Some []) new.err 0 new.err_faults (message_of OutOfMemory) 8 status no8 no7 no8 t
+
+translatable : (new : World) → Ends words (world (folder sum_text) []) new 3 → ⊥
+translatable new end = not_refused new 3 (λ e. cc e) (λ e. cc e) (λ e. cc e) (λ e. cc e) (λ e. cc e) end
+
+within_limits : (new : World) → Ends words (world (folder sum_text) []) new 5 → ⊥
+within_limits new end = not_refused new 5 (λ e. cc e) (λ e. cc e) (λ e. cc e) (λ e. cc e) (λ e. cc e) end
 
 -- no words never end well, whatever the folder has
 no_words_fail : (old new : World) → Ends [] old new 0 → ⊥
@@ -139,7 +244,8 @@ no_words_fail old new end = at end.cause end.holds end.tells
     at Translated h t = cc (h.1.spelt.read)
     at Unread h t = not_said old.err new.err old.err_faults new.err_faults (message_of Unread) 2 0 (λ e. cc e) (λ e. cc e) (λ e. cc e) t
     at (Missing name) h t = cc (h.0)
-    at (Unbuilt name) h t = cc (h.0)
+    at (TooLarge name) h t = cc (h.0)
+    at (Faulty name fault) h t = cc (h.0)
     at ReadFailed h t = cc (h.1)
     at WriteFailed h t = cc (h.1.spelt.read)
     at OutOfMemory h t = cc (h.1)

@@ -2,7 +2,7 @@
 use Rattle.std.proofs.Common.{◌≡◌, ℕ, List, [], ◌∷◌, ◌++◌, refl, codes}
 use Rattle.runs.specs.Number.{W32}
 use Rattle.py_meaning.specs.Name.{Name}
-use Rattle.py_meaning.specs.Token.{Place}
+use Rattle.py_tokens.specs.Token.{Place}
 use Rattle.py_meaning.specs.Tree.{LessThan, EName, ENumber, CCompare, Stmt, SAssign, SPrint, SIf, SWhile, Body, none, more}
 use Rattle.py_meaning.specs.Program.{Program}
 use Rattle.cpp_meaning.specs.Text.{File}

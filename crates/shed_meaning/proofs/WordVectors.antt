@@ -1,7 +1,11 @@
 -- What some words of the command line say, and what is said of each ending of the command.
-use Rattle.std.proofs.Common.{◌≡◌, [], ◌∷◌, Some, None, refl, codes}
+use Rattle.std.proofs.Common.{◌≡◌, ℕ, List, [], ◌∷◌, Some, None, refl, codes}
+use Rattle.std.specs.Fmt.{digits}
+use Rattle.py_tokens.specs.Token.{Place, MixedTabs, TooLong, TName, TNumber, TText, TDedent}
 use Rattle.shed_meaning.specs.Words.{reading}
-use Rattle.shed_meaning.specs.Outcome.{Translated, Unread, Missing, Unbuilt, ReadFailed, WriteFailed, OutOfMemory, status_of, message_of}
+use Rattle.shed_meaning.specs.TokenText.{token_text}
+use Rattle.shed_meaning.specs.Fault.{Fault, BadToken, Unexpected, TooDeep, Unbuilt}
+use Rattle.shed_meaning.specs.Outcome.{Translated, Unread, Missing, TooLarge, Faulty, ReadFailed, WriteFailed, OutOfMemory, status_of, message_of}
 
 -- ---- words
 
@@ -69,8 +73,47 @@ said_usage = (refl, refl)
 said_missing : (message_of (Missing (codes "main")) ≡ codes "main.py: M1 Missing main\n") × (status_of (Missing (codes "main")) ≡ 3)
 said_missing = (refl, refl)
 
-said_unbuilt : (message_of (Unbuilt (codes "main")) ≡ codes "main.py:1:1: P2 Outside unbuilt\n") × (status_of (Unbuilt (codes "main")) ≡ 3)
+said_too_large : (message_of (TooLarge (codes "main")) ≡ codes "shed: M6 TooLarge main\n") × (status_of (TooLarge (codes "main")) ≡ 5)
+said_too_large = (refl, refl)
+
+abbrev at : ℕ → ℕ → Place
+at line column = record { «module» = 0; line = line; column = column }
+
+-- a fault of the module `main` is said so, with this status
+abbrev Said : Fault → List ℕ → ℕ → Type 0
+Said fault message status = (message_of (Faulty (codes "main") fault) ≡ message) × (status_of (Faulty (codes "main") fault) ≡ status)
+
+said_bad_token : Said (BadToken MixedTabs (at 12 3)) (codes "main.py:12:3: L4 MixedTabs\n") 3
+unfolding digits
+said_bad_token = (refl, refl)
+
+-- a name that is too long passes a limit
+said_too_long : Said (BadToken TooLong (at 2 100)) (codes "main.py:2:100: L11 TooLong\n") 5
+unfolding digits
+said_too_long = (refl, refl)
+
+said_unexpected : Said (Unexpected (at 3 4) (codes "else")) (codes "main.py:3:4: P1 Unexpected else\n") 3
+unfolding digits
+said_unexpected = (refl, refl)
+
+said_unbuilt : Said (Unbuilt (at 1 7)) (codes "main.py:1:7: P2 Outside unbuilt\n") 3
+unfolding digits
 said_unbuilt = (refl, refl)
+
+-- at the beginning
+said_too_deep : Said TooDeep (codes "main.py:1:1: P2 Outside unbuilt\n") 3
+unfolding digits
+said_too_deep = (refl, refl)
+
+-- tokens as they are printed
+numbers_and_words : (token_text (TNumber 1024) ≡ codes "1024") × (token_text (TName (codes "x")) ≡ codes "x") × (token_text TDedent ≡ codes "DEDENT")
+unfolding digits
+numbers_and_words = (refl, refl, refl)
+
+-- a text as `repr` has it: quotes, a backslash, line ends and tabs, and other control characters
+texts : (token_text (TText (codes "it's")) ≡ codes "\"it's\"") × (token_text (TText (codes "'\"")) ≡ codes "'\\'\"'")
+    × (token_text (TText (codes "\\a\n\r\t")) ≡ codes "'\\\\a\\n\\r\\t'") × (token_text (TText (0 ∷ 31 ∷ 127 ∷ [])) ≡ codes "'\\x00\\x1f\\x7f'")
+texts = (refl, refl, refl, refl)
 
 said_read_failed : (message_of ReadFailed ≡ codes "shed: read fault\n") × (status_of ReadFailed ≡ 6)
 said_read_failed = (refl, refl)

@@ -3,4 +3,6 @@ pub mod Layout
 pub mod Table
 pub mod Headline
 pub mod Words
+pub mod TokenText
+pub mod Fault
 pub mod Outcome

@@ -10,6 +10,7 @@ use Rattle.py_meaning.specs.Source.{IsSource, most_bytes}
 use Rattle.cpp_meaning.specs.Tree.{Program as CppProgram}
 use Rattle.cpp_meaning.specs.Text.{File}
 use Rattle.shed_meaning.specs.Words.{reading}
+use Rattle.shed_meaning.specs.Fault.{Fault, BadToken, HasFault, fault_status, fault_text}
 use Rattle.shed_meaning.specs.Headline.{Headline}
 
 -- what the objects of the outside hold, where they tell it, and the faults that they have counted
@@ -29,8 +30,10 @@ pub data Cause : Type 0 where
   Unread : Cause
   -- there is no file of the module
   Missing : (name : Name) → Cause
-  -- the module isn't of the language that is built
-  Unbuilt : (name : Name) → Cause
+  -- its file has more bytes than a module may have
+  TooLarge : (name : Name) → Cause
+  -- its text is not translated, for this reason
+  Faulty : (name : Name) → (fault : Fault) → Cause
   ReadFailed : Cause
   -- a file of the output could not be written
   WriteFailed : Cause
@@ -40,7 +43,8 @@ abbrev pub status_of : Cause → ℕ
 status_of Translated = 0
 status_of Unread = 2
 status_of (Missing name) = 3
-status_of (Unbuilt name) = 3
+status_of (TooLarge name) = 5
+status_of (Faulty name fault) = fault_status fault
 status_of ReadFailed = 6
 status_of WriteFailed = 7
 status_of OutOfMemory = 8
@@ -50,7 +54,8 @@ abbrev pub message_of : Cause → List ℕ
 message_of Translated = []
 message_of Unread = codes "usage: shed translate [-l] [-b] [-w] [-o] [-a] [-m FILE] NAME | run [--ticks N] NAME | bulk SEED COUNT\n"
 message_of (Missing name) = text_of name ++ (codes ".py: M1 Missing " ++ (text_of name ++ codes "\n"))
-message_of (Unbuilt name) = text_of name ++ codes ".py:1:1: P2 Outside unbuilt\n"
+message_of (TooLarge name) = codes "shed: M6 TooLarge " ++ (text_of name ++ codes "\n")
+message_of (Faulty name fault) = fault_text name fault
 message_of ReadFailed = codes "shed: read fault\n"
 message_of WriteFailed = codes "shed: write fault\n"
 message_of OutOfMemory = codes "shed: no memory\n"
@@ -98,9 +103,11 @@ abbrev pub Holds : List (List ℕ) → World → World → Cause → Type 0
 Holds words old new Translated = (files : List File) × Yields words old.files files × (new.files ≡ with_files old.files files)
 Holds words old new Unread = (reading words ≡ None) × (new.files ≡ old.files)
 Holds words old new (Missing name) = (reading words ≡ Some name) × GivesModule old.files name None × (new.files ≡ old.files)
-Holds words old new (Unbuilt name) =
+Holds words old new (TooLarge name) =
+    (reading words ≡ Some name) × (text : List ℕ) × GivesModule old.files name (Some text) × (most_bytes < length text) × (new.files ≡ old.files)
+Holds words old new (Faulty name fault) =
     (reading words ≡ Some name) × (text : List ℕ) × GivesModule old.files name (Some text)
-    × ((most_bytes < length text) ⊎ ((body : Body) → IsSource text body → ⊥)) × (new.files ≡ old.files)
+    × (length text ≤ most_bytes) × HasFault text fault × (new.files ≡ old.files)
 Holds words old new ReadFailed = (name : Name) × (reading words ≡ Some name) × Rose old.read_faults new.read_faults × (new.files ≡ old.files)
 Holds words old new WriteFailed = (files : List File) × Yields words old.files files × Rose old.write_faults new.write_faults × BreaksOff files old.files new.files
 -- earlier files may stand whole
@@ -135,10 +142,13 @@ pub record Causes (words : List (List ℕ)) (old new : World) (status : ℕ) : T
   -- 2: the words say nothing, and where they say nothing it is 2, but for err
   pub refused : status ≡ 2 → reading words ≡ None
   pub unread : reading words ≡ None → (status ≡ 2) ⊎ ((status ≡ 7) × Rose old.err_faults new.err_faults) ⊎ (status ≡ 8)
-  -- 3: there is no file of the module, or it isn't of the language
+  -- 3: there is no file of the module, or its text has a fault that refuses it
   pub source : status ≡ 3 → (name : Name) × (reading words ≡ Some name)
       × (GivesModule old.files name None
-      ⊎ ((text : List ℕ) × GivesModule old.files name (Some text) × ((most_bytes < length text) ⊎ ((body : Body) → IsSource text body → ⊥))))
+      ⊎ ((text : List ℕ) × GivesModule old.files name (Some text) × (length text ≤ most_bytes) × (fault : Fault) × HasFault text fault × (fault_status fault ≡ 3)))
+  -- 5: the text has too many bytes, or a fault that passes a limit
+  pub limit : status ≡ 5 → (name : Name) × (reading words ≡ Some name) × (text : List ℕ) × GivesModule old.files name (Some text)
+      × ((most_bytes < length text) ⊎ ((length text ≤ most_bytes) × (fault : Fault) × HasFault text fault × (fault_status fault ≡ 5)))
   -- 6 and 7: a count of that kind rose in the call
   pub read_fault : status ≡ 6 → ((name : Name) × (reading words ≡ Some name)) × Rose old.read_faults new.read_faults
   pub write_fault : status ≡ 7 → Rose old.write_faults new.write_faults ⊎ Rose old.err_faults new.err_faults
@@ -147,6 +157,6 @@ pub record Causes (words : List (List ℕ)) (old new : World) (status : ℕ) : T
       → (Rose old.read_faults new.read_faults → ⊥) → (Rose old.write_faults new.write_faults → ⊥) → (Rose old.err_faults new.err_faults → ⊥)
       → (status ≡ 0) ⊎ (status ≡ 8)
   -- no other status comes
-  pub known : (status ≡ 0) ⊎ (status ≡ 2) ⊎ (status ≡ 3) ⊎ (status ≡ 6) ⊎ (status ≡ 7) ⊎ (status ≡ 8)
+  pub known : (status ≡ 0) ⊎ (status ≡ 2) ⊎ (status ≡ 3) ⊎ (status ≡ 5) ⊎ (status ≡ 6) ⊎ (status ≡ 7) ⊎ (status ≡ 8)
   -- but for 0, 7 and 8 the folder is as it was
   pub folder_kept : (status ≡ 0 → ⊥) → (status ≡ 7 → ⊥) → (status ≡ 8 → ⊥) → new.files ≡ old.files

@@ -1,19 +1,22 @@
 -- What the words of the command line say: `translate` and the name of a module.
-use Rattle.std.specs.Prelude.{ℕ, List, [], ◌∷◌, Bool, false, not, ◌&&◌, Option, Some, None, if◌then◌else◌, codes}
+use Rattle.std.specs.Prelude.{ℕ, List, [], ◌∷◌, Bool, false, not, ◌&&◌, ◌||◌, ◌==◌, Option, Some, None, if◌then◌else◌, codes}
 use Rattle.std.specs.Str.{bytes_eq}
 use Rattle.std.specs.List.{list_all, list_any}
-use Rattle.std.specs.Char.{is_ascii_digit}
-use Rattle.py_meaning.specs.Name.{Name, same_name}
-use Rattle.py_meaning.specs.Lexer.{is_name_part, barred}
+use Rattle.std.specs.Char.{is_ascii_digit, is_ascii_alphanumeric}
+use Rattle.py_meaning.specs.Name.{Name}
+use Rattle.py_tokens.specs.Lexeme.{keywords}
 
 -- the word without one `.py` at its end
 abbrev pub without_ending : List ℕ → List ℕ
 without_ending [] = []
 without_ending (c ∷ word) = if bytes_eq (c ∷ word) (codes ".py") then [] else c ∷ without_ending word
 
--- a word of the language: every barred name but `__name__`, which is a name like others here
+-- a letter, a digit or `_`
+abbrev pub is_name_part : ℕ → Bool
+is_name_part b = is_ascii_alphanumeric b || (b == 95)
+
 abbrev pub is_keyword : List ℕ → Bool
-is_keyword word = list_any (same_name word) barred && not (bytes_eq word (codes "__name__"))
+is_keyword word = list_any (λ k. bytes_eq k word) keywords
 
 -- letters, digits and `_` that begin with no digit, and are no keyword
 abbrev pub is_module_name : List ℕ → Bool

@@ -1,7 +1,8 @@
 use Rattle.std.proofs.Common.{◌≡◌, drop}
 use Rattle.py_meaning.specs.Binding.{targets}
-use Rattle.py_parser.specs.PlainTrees.{plain_body}
-use Rattle.cpp_emit.specs.Names.{texts, with_names}
+use Rattle.py_built.specs.PlainTrees.{plain_body}
+use Rattle.py_built.specs.Names.{texts}
+use Rattle.cpp_emit.specs.Names.{with_names}
 use Rattle.cpp_emit.proofs.bound.+targets.Given as goal
 
 abbrev pub invariant-bind_targets-loop-stmt : goal.invariant-bind_targets-loop-stmt

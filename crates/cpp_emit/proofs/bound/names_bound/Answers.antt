@@ -1,9 +1,10 @@
 use Rattle.std.proofs.Common.{◌≡◌, List, [], ap, ◌∙◌, rules, arith}
 use Rattle.std.proofs.lemmas.Grind.{common_steps}
-use Rattle.py_parser.specs.PlainTrees.{plain_body}
+use Rattle.py_built.specs.PlainTrees.{plain_body}
 use Rattle.py_meaning.specs.Binding.{targets, once}
-use Rattle.py_parser.specs.declared.tree.Stmt.{Stmt}
-use Rattle.cpp_emit.specs.Names.{texts, with_names}
+use Rattle.py_built.specs.declared.tree.Stmt.{Stmt}
+use Rattle.py_built.specs.Names.{texts}
+use Rattle.cpp_emit.specs.Names.{with_names}
 use Rattle.cpp_emit.proofs.NamesKept.{with_names-once}
 use Rattle.cpp_emit.proofs.bound.names_bound.Goals as goal
 

@@ -1,5 +1,5 @@
 use Rattle.std.proofs.Common.{◌≡◌, drop}
-use Rattle.py_parser.specs.PlainTrees.{plain_body}
+use Rattle.py_built.specs.PlainTrees.{plain_body}
 use Rattle.cpp_emit.specs.Emit.{prints}
 use Rattle.cpp_emit.proofs.emission.+prints.Given as goal
 

@@ -1,5 +1,5 @@
 use Rattle.std.proofs.Common.{sym, subst}
-use Rattle.py_parser.specs.PlainTrees.{plain as plain_source}
+use Rattle.py_built.specs.PlainTrees.{plain as plain_source}
 use Rattle.cpp_emit.specs.Law.{IsTranslation}
 use Rattle.cpp_emit.proofs.EmissionTranslates.{emission_translates}
 use Rattle.cpp_emit.proofs.emission.emit.Goals as goal

@@ -2,7 +2,7 @@ use Rattle.std.proofs.Common.{◌≡◌, ◌++◌, drop}
 use Rattle.std.specs.Prelude.{map, string_bytes}
 use Rattle.cpp_ast.specs.Plain.{plain_definition}
 use Rattle.shed_meaning.specs.Layout.{variables}
-use Rattle.cpp_emit.specs.Names.{texts}
+use Rattle.py_built.specs.Names.{texts}
 use Rattle.cpp_emit.proofs.emission.emit_source.Given as goal
 
 abbrev pub invariant-loop-global : goal.invariant-loop-global

@@ -1,20 +1,16 @@
 use Rattle.std.proofs.Common.{refl, ap, ◌∙◌, subst, Err}
 use Rattle.shed_base.specs.Outside.{Rose}
-use Rattle.shed_cli.proofs.Endings.{end_unread, end_missing, end_unbuilt, end_read_failed, end_no_memory, end_no_memory_writing, end_write_failed, end_translated}
+use Rattle.shed_cli.specs.Judging.{number_of}
+use Rattle.shed_cli.proofs.Endings.{end_unread, end_refused, end_read_failed, end_no_memory, end_no_memory_writing, end_write_failed, end_translated}
 use Rattle.shed_cli.proofs.top.carry_out.Goals as goal
 
 pub returns-in-Unread-clause-outcome : goal.returns-in-Unread-clause-outcome
 returns-in-Unread-clause-outcome g c = end_unread _ _ _ _ refl c.in-Unread.ensures.judged c.in-Unread.ensures.kept c.report.ensures.says
 
-pub returns-in-Missing-clause-outcome : goal.returns-in-Missing-clause-outcome
-returns-in-Missing-clause-outcome g c =
-    let j = c.in-Missing.ensures.judged in
-    end_missing _ _ _ _ refl j.0 c.as_str.result.now j.1 j.2 (c.as_str.ensures.value ∙ j.3) c.in-Missing.ensures.kept c.report-in-Missing.ensures.says
-
-pub returns-in-Unbuilt-clause-outcome : goal.returns-in-Unbuilt-clause-outcome
-returns-in-Unbuilt-clause-outcome g c =
-    let j = c.in-Unbuilt.ensures.judged in
-    end_unbuilt _ _ _ _ refl j.0 j.2 c.as_str-in-Unbuilt.result.now j.1 j.3 j.4 (c.as_str-in-Unbuilt.ensures.value ∙ j.5) c.in-Unbuilt.ensures.kept c.report-in-Unbuilt.ensures.says
+pub returns-in-Refused-clause-outcome : goal.returns-in-Refused-clause-outcome
+returns-in-Refused-clause-outcome g c =
+    let j = c.in-Refused.ensures.judged in
+    end_refused _ _ _ _ refl j.0 c.as_str.result.now (number_of c.in-Refused.status) j.1 (c.as_str.ensures.value ∙ j.2) j.3 c.in-Refused.ensures.kept c.report-in-Refused.ensures.says
 
 pub returns-in-ReadFailed-clause-outcome : goal.returns-in-ReadFailed-clause-outcome
 returns-in-ReadFailed-clause-outcome g c =

@@ -1,6 +1,6 @@
 use Rattle.std.proofs.Common.{◌≡◌, drop}
 use Rattle.std.specs.List.{list_all}
-use Rattle.py_meaning.specs.Lexer.{is_name_part}
+use Rattle.shed_meaning.specs.Words.{is_name_part}
 use Rattle.shed_cli.proofs.words.are_name_parts.Given as goal
 
 abbrev pub invariant-loop-byte : goal.invariant-loop-byte

@@ -1,4 +1,4 @@
-use Rattle.std.proofs.Common.{◌≤◌, arith}
+use Rattle.std.proofs.Common.{arith}
 use Rattle.shed_base.proofs.ToldBytes.{appended_slice}
 use Rattle.shed_cli.proofs.FilesWritten.{front_taken, piece_within}
 use Rattle.shed_cli.proofs.writing.write_all.Goals as goal

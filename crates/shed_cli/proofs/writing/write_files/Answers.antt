@@ -1,4 +1,4 @@
-use Rattle.std.proofs.Common.{◌≤◌, arith, ◌∙◌}
+use Rattle.std.proofs.Common.{arith, ◌∙◌}
 use Rattle.shed_cli.proofs.FilesWritten.{one_written, one_broken}
 use Rattle.shed_cli.proofs.writing.write_files.Goals as goal
 

@@ -1,0 +1,4 @@
+pub mod PlainTrees
+pub mod Names
+pub mod First
+pub mod Forms

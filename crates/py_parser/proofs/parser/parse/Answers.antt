@@ -1,0 +1,5 @@
+use Rattle.py_parser.proofs.Shallow.{shallow}
+use Rattle.py_parser.proofs.parser.parse.Goals as goal
+
+pub returns-clause-tree : goal.returns-clause-tree
+returns-clause-tree c = (c.in_ok-module.ensures, shallow _ _ c.in_ok-_height.ensures.recognised _ c.in_ok-module.ensures)
