@@ -1,7 +1,6 @@
 use crate::build;
-use py_parser::tree::{
-    BinaryOperator, ComparisonOperator, Expr, Module, NameAt, Stmt, Target, Targets,
-};
+use py_parser::tree::{Expr, Module, NameAt, Stmt, Target, Targets};
+use py_recogniser::operator::{BinaryOperator, ComparisonOperator};
 use shed_base::{Name, Names, NoMemory, Place};
 use sqlite_items::{Boxed, Items};
 use std::alloc::{AllocError, Global};
