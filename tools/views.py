@@ -151,18 +151,16 @@ def equations(out, kind, view, step, all_variants, child_maps, ruleset):
 EXPR_HEAD = """-- The code's expressions as the plain trees that definitions speak of. `tools/views.py` writes this file.
 use Rattle.std.specs.Prelude.{◌≡◌, ℕ, List, [], ◌∷◌, map, Option, Some, None}
 use Rattle.std.specs.Option.{option_map}
-use Rattle.std.proofs.Common.{refl, ap, sym, ◌∙◌}
+use Rattle.std.proofs.Common.{refl, ap, ap₂, sym, ◌∙◌}
 use Rattle.py_syntax.specs.Tree as meaning
+use Rattle.py_recogniser.specs.PlainOperators.{plain_unary, plain_binary, plain_comparison}
 use Rattle.py_lexer.specs.PlainTokens.{plain_place}
 use Rattle.shed_base.specs.declared.place.Place.{Place}
 use Rattle.shed_base.specs.declared.names.Name.{Name}
 use Rattle.py_parser.specs.declared.tree.NameAt.{NameAt}
-use Rattle.py_parser.specs.declared.tree.UnaryOperator.{UnaryOperator}
-use Rattle.py_parser.specs.declared.tree.UnaryOperator.TheVariants as unary
-use Rattle.py_parser.specs.declared.tree.BinaryOperator.{BinaryOperator}
-use Rattle.py_parser.specs.declared.tree.BinaryOperator.TheVariants as binary
-use Rattle.py_parser.specs.declared.tree.ComparisonOperator.{ComparisonOperator}
-use Rattle.py_parser.specs.declared.tree.ComparisonOperator.TheVariants as comparison
+use Rattle.py_recogniser.specs.declared.operator.UnaryOperator.{UnaryOperator}
+use Rattle.py_recogniser.specs.declared.operator.BinaryOperator.{BinaryOperator}
+use Rattle.py_recogniser.specs.declared.operator.ComparisonOperator.{ComparisonOperator}
 use Rattle.py_parser.specs.declared.tree.LoopTarget.{LoopTarget}
 use Rattle.py_parser.specs.declared.tree.LoopTarget.TheVariants as loop_target
 use Rattle.py_parser.specs.declared.tree.LoopTarget.TheOpen as loop_target_open
@@ -270,52 +268,69 @@ EXPR_MAPS = {
     "plain_loops": "loops_of (map (λ e. (e.0, e.1, fold-Expr meaning.Expr expr_step e.2, map (fold-Expr meaning.Expr expr_step) e.3)) {})",
 }
 
-LOOP_TARGET = """-- one level, whose parts are plain already
-abbrev pub loop_target_step : loop_target_open.LoopTarget-F meaning.LoopTarget → meaning.LoopTarget
-loop_target_step (loop_target_open.Name a) = meaning.LoopName (plain_name a)
-loop_target_step (loop_target_open.Names a b) = meaning.LoopNames (plain_place a) (plain_names b)
-loop_target_step (loop_target_open.Parenthesis a b) = meaning.LoopParenthesis (plain_place a) b
+# Of a small tree, each variant with its plain one, and each field with its type, and its view in a step and in an equation.
+LOOP_TARGET = (
+    ("Name", "LoopName", (("a", "NameAt", "(plain_name a)", "(plain_name a)"),)),
+    ("Names", "LoopNames", (("a", "Place", "(plain_place a)", "(plain_place a)"), ("b", "List NameAt", "(plain_names b)", "(plain_names b)"))),
+    ("Parenthesis", "LoopParenthesis", (("a", "Place", "(plain_place a)", "(plain_place a)"), ("b", "LoopTarget", "b", "(plain_loop_target b)"))),
+)
 
-unfoldable pub plain_loop_target : LoopTarget → meaning.LoopTarget
-plain_loop_target = fold-LoopTarget meaning.LoopTarget loop_target_step
+PLACE = ("p", "Place", "(plain_place p)", "(plain_place p)")
+INNER = ("ts", "Targets", "ts", "(plain_targets ts)")
+TARGETS = (
+    ("One", "OneTarget", (("t", "Target", "(plain_target t)", "(plain_target t)"),)),
+    ("Several", "SomeTargets", (PLACE, ("ts", "List Target", "(plain_target_list ts)", "(plain_target_list ts)"))),
+    ("Parenthesis", "ParenthesisTargets", (PLACE, INNER)),
+    ("Bracket", "BracketTargets", (PLACE, INNER)),
+)
 
-pub plain_loop_target-Name : (a : NameAt) → plain_loop_target (loop_target.Name a) ≡ meaning.LoopName (plain_name a)
-unfolding plain_loop_target
-plain_loop_target-Name a = ap (fold-LoopTarget meaning.LoopTarget loop_target_step) (sym (loop_target.rolls-Name a)) ∙ fold-roll-LoopTarget meaning.LoopTarget loop_target_step _
 
-pub plain_loop_target-Names : (a : Place) (b : List NameAt) → plain_loop_target (loop_target.Names a b) ≡ meaning.LoopNames (plain_place a) (plain_names b)
-unfolding plain_loop_target
-plain_loop_target-Names a b = ap (fold-LoopTarget meaning.LoopTarget loop_target_step) (sym (loop_target.rolls-Names a b)) ∙ fold-roll-LoopTarget meaning.LoopTarget loop_target_step _
+def small_view(kind, low, rows, ruleset):
+    """The step, the view and the equations of a tree whose children are no lists of it."""
+    view, step = f"plain_{low}", f"{low}_step"
+    fold = f"fold-{kind} meaning.{kind} {step}"
+    out = [f"abbrev pub {step} : {low}_open.{kind}-F meaning.{kind} → meaning.{kind}\n"]
+    for code, plain, fields in rows:
+        names = " ".join(name for name, _, _, _ in fields)
+        out.append(f"{step} ({low}_open.{code} {names}) = meaning.{plain} {' '.join(inner for _, _, inner, _ in fields)}\n")
+    out.append(f"\nunfoldable pub {view} : {kind} → meaning.{kind}\n{view} = {fold}\n\n")
+    for code, plain, fields in rows:
+        names = " ".join(name for name, _, _, _ in fields)
+        typed = " ".join(f"({name} : {of})" for name, of, _, _ in fields)
+        out.append(f"pub {view}-{code} : {typed} → {view} ({low}.{code} {names}) ≡ meaning.{plain} {' '.join(shown for _, _, _, shown in fields)}\n")
+        out.append(f"unfolding {view}\n{view}-{code} {names} = ap ({fold}) (sym ({low}.rolls-{code} {names})) ∙ fold-roll-{kind} meaning.{kind} {step} _\n\n")
+    out.append(f"pub ruleset {ruleset} = ({', '.join(f'{view}-{code}' for code, _, _ in rows)})\n\n")
+    return "".join(out)
 
-pub plain_loop_target-Parenthesis : (a : Place) (b : LoopTarget) → plain_loop_target (loop_target.Parenthesis a b) ≡ meaning.LoopParenthesis (plain_place a) (plain_loop_target b)
-unfolding plain_loop_target
-plain_loop_target-Parenthesis a b = ap (fold-LoopTarget meaning.LoopTarget loop_target_step) (sym (loop_target.rolls-Parenthesis a b)) ∙ fold-roll-LoopTarget meaning.LoopTarget loop_target_step _
 
-pub ruleset plain_loop_targets = (plain_loop_target-Name, plain_loop_target-Names, plain_loop_target-Parenthesis)
+SLICES = """-- the same for each number of bounds
+pub plain_expr-Slice-neither : (a : Place) (b : Expr) → plain_expr (expr.Slice a b None None) ≡ meaning.ESlice (plain_place a) (plain_expr b) meaning.no_expr meaning.no_expr
+plain_expr-Slice-neither a b = plain_expr-Slice a b None None
+
+pub plain_expr-Slice-lower : (a : Place) (b c : Expr) → plain_expr (expr.Slice a b (Some c) None) ≡ meaning.ESlice (plain_place a) (plain_expr b) (meaning.an_expr (plain_expr c)) meaning.no_expr
+plain_expr-Slice-lower a b c = plain_expr-Slice a b (Some c) None
+
+pub plain_expr-Slice-no-upper : (a : Place) (b : Expr) (c : Option Expr) → plain_expr (expr.Slice a b c None) ≡ meaning.ESlice (plain_place a) (plain_expr b) (plain_maybe c) meaning.no_expr
+plain_expr-Slice-no-upper a b c = plain_expr-Slice a b c None
+
+pub plain_expr-Slice-upper : (a : Place) (b : Expr) (c : Option Expr) (d : Expr) → plain_expr (expr.Slice a b c (Some d)) ≡ meaning.ESlice (plain_place a) (plain_expr b) (plain_maybe c) (meaning.an_expr (plain_expr d))
+plain_expr-Slice-upper a b c d = plain_expr-Slice a b c (Some d)
 
 """
 
 
-def enum_view(out, kind, view, names):
-    low = {"UnaryOperator": "unary", "BinaryOperator": "binary", "ComparisonOperator": "comparison"}[kind]
-    out.append(f"abbrev pub {view} : {kind} → meaning.{kind}\n")
-    out += [f"{view} {low}.{n} = meaning.{n}\n" for n in names.split()]
-    out.append("\n")
-
-
 def write_exprs():
     out = [EXPR_HEAD]
-    enum_view(out, "UnaryOperator", "plain_unary", "Negative Positive Invert")
-    enum_view(out, "BinaryOperator", "plain_binary", "BitOr BitXor BitAnd LeftShift RightShift Add Subtract Multiply FloorDivide Modulo Power")
-    enum_view(out, "ComparisonOperator", "plain_comparison", "Less Greater LessOrEqual GreaterOrEqual Equal NotEqual In NotIn Is IsNot")
-    out.append(LOOP_TARGET)
+    out.append("-- one level, whose parts are plain already\n" + small_view("LoopTarget", "loop_target", LOOP_TARGET, "plain_loop_targets"))
     out.append(EXPR_LISTS)
     children = {"expr", "exprs", "maybe", "pairs", "links", "keywords", "loops"}
     out.append("-- one level, whose parts are plain already\n")
     found = fold_view(out, "Expr", "plain_expr", "expr_step", EXPR, children, EXPR_MAPS)
     out.append(EXPR_CHILDREN.replace("folded : Expr → meaning.Expr\nfolded = fold-Expr meaning.Expr expr_step\n\n", ""))
     equations(out, "Expr", "plain_expr", "expr_step", found, EXPR_MAPS, "plain_exprs_by_variant")
-    (SPECS / "PlainExprs.antt").write_text("".join(out).replace("{refl, ap, sym, ◌∙◌}", "{refl, ap, ap₂, sym, ◌∙◌}"))
+    text = "".join(out).replace("pub plain_expr-Unary :", SLICES + "pub plain_expr-Unary :")
+    text = text.replace("plain_expr-Slice, plain_expr-Unary", "plain_expr-Slice-neither, plain_expr-Slice-lower, plain_expr-Slice-no-upper, plain_expr-Slice-upper, plain_expr-Unary")
+    (SPECS / "PlainExprs.antt").write_text(text)
 
 
 STMT_HEAD = """-- The code's targets, statements and modules as the plain trees that definitions speak of. `tools/views.py` writes this
@@ -325,10 +340,11 @@ use Rattle.std.specs.Option.{option_map}
 use Rattle.std.proofs.Common.{refl, ap, ap₂, sym, ◌∙◌}
 use Rattle.py_syntax.specs.Tree as meaning
 use Rattle.py_lexer.specs.PlainTokens.{plain_place}
-use Rattle.py_parser.specs.PlainExprs.{plain_name, plain_names, plain_binary, plain_loop_target, plain_expr, plain_maybe}
+use Rattle.py_parser.specs.PlainExprs.{plain_name, plain_names, plain_loop_target, plain_expr, plain_maybe}
+use Rattle.py_recogniser.specs.PlainOperators.{plain_binary}
 use Rattle.shed_base.specs.declared.place.Place.{Place}
 use Rattle.py_parser.specs.declared.tree.NameAt.{NameAt}
-use Rattle.py_parser.specs.declared.tree.BinaryOperator.{BinaryOperator}
+use Rattle.py_recogniser.specs.declared.operator.BinaryOperator.{BinaryOperator}
 use Rattle.py_parser.specs.declared.tree.LoopTarget.{LoopTarget}
 use Rattle.py_parser.specs.declared.tree.Expr.{Expr}
 use Rattle.py_parser.specs.declared.tree.Target.{Target}
@@ -357,34 +373,9 @@ plain_target (target.Subscript p e i) = meaning.TargetSubscript (plain_place p) 
 abbrev pub plain_target_list : List Target → List meaning.Target
 plain_target_list = map plain_target
 
-abbrev pub targets_step : targets_open.Targets-F meaning.Targets → meaning.Targets
-targets_step (targets_open.One t) = meaning.OneTarget (plain_target t)
-targets_step (targets_open.Several p ts) = meaning.SomeTargets (plain_place p) (plain_target_list ts)
-targets_step (targets_open.Parenthesis p ts) = meaning.ParenthesisTargets (plain_place p) ts
-targets_step (targets_open.Bracket p ts) = meaning.BracketTargets (plain_place p) ts
+"""
 
-unfoldable pub plain_targets : Targets → meaning.Targets
-plain_targets = fold-Targets meaning.Targets targets_step
-
-pub plain_targets-One : (t : Target) → plain_targets (targets.One t) ≡ meaning.OneTarget (plain_target t)
-unfolding plain_targets
-plain_targets-One t = ap (fold-Targets meaning.Targets targets_step) (sym (targets.rolls-One t)) ∙ fold-roll-Targets meaning.Targets targets_step _
-
-pub plain_targets-Several : (p : Place) (ts : List Target) → plain_targets (targets.Several p ts) ≡ meaning.SomeTargets (plain_place p) (plain_target_list ts)
-unfolding plain_targets
-plain_targets-Several p ts = ap (fold-Targets meaning.Targets targets_step) (sym (targets.rolls-Several p ts)) ∙ fold-roll-Targets meaning.Targets targets_step _
-
-pub plain_targets-Parenthesis : (p : Place) (ts : Targets) → plain_targets (targets.Parenthesis p ts) ≡ meaning.ParenthesisTargets (plain_place p) (plain_targets ts)
-unfolding plain_targets
-plain_targets-Parenthesis p ts = ap (fold-Targets meaning.Targets targets_step) (sym (targets.rolls-Parenthesis p ts)) ∙ fold-roll-Targets meaning.Targets targets_step _
-
-pub plain_targets-Bracket : (p : Place) (ts : Targets) → plain_targets (targets.Bracket p ts) ≡ meaning.BracketTargets (plain_place p) (plain_targets ts)
-unfolding plain_targets
-plain_targets-Bracket p ts = ap (fold-Targets meaning.Targets targets_step) (sym (targets.rolls-Bracket p ts)) ∙ fold-roll-Targets meaning.Targets targets_step _
-
-pub ruleset plain_targets_by_variant = (plain_targets-One, plain_targets-Several, plain_targets-Parenthesis, plain_targets-Bracket)
-
-abbrev pub plain_target_lists : List Targets → List meaning.Targets
+STMT_LISTS = """abbrev pub plain_target_lists : List Targets → List meaning.Targets
 plain_target_lists = map plain_targets
 
 abbrev pub plain_class : ClassName → meaning.ClassName
@@ -446,7 +437,7 @@ STMT_MAPS = {
 
 
 def write_stmts():
-    out = [STMT_HEAD]
+    out = [STMT_HEAD, small_view("Targets", "targets", TARGETS, "plain_targets_by_variant"), STMT_LISTS]
     found = fold_view(out, "Stmt", "plain_stmt", "stmt_step", STMT, {"body", "handlers"}, STMT_MAPS)
     out.append(STMT_CHILDREN)
     equations(out, "Stmt", "plain_stmt", "stmt_step", found, STMT_MAPS, "plain_stmts_by_variant")
