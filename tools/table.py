@@ -303,16 +303,16 @@ use crate::operator::{{BinaryOperator, ComparisonOperator, UnaryOperator}};
 
 /// What symbols stand for.
 #[derive(Clone, Copy, Debug, PartialEq, Eq)]
-pub(crate) enum Nonterminal {{
+pub enum Nonterminal {{
 """]
     out += [f"    {x},\n" for x in grammar]
-    out.append("}\n\n/// What is done between symbols, to build a tree.\n#[derive(Clone, Copy, Debug, PartialEq, Eq)]\npub(crate) enum Action {\n")
+    out.append("}\n\n/// What is done between symbols, to build a tree.\n#[derive(Clone, Copy, Debug, PartialEq, Eq)]\npub enum Action {\n")
     out += [f"    {a}({t}),\n" if t else f"    {a},\n" for a, t in actions]
     out.append("""}
 
 /// When a row may be taken, by the last part built.
 #[derive(Clone, Copy, Debug, PartialEq, Eq)]
-pub(crate) enum Guard {
+pub enum Guard {
     Always,
     AreTargetsLast,
     IsTargetLast,
@@ -320,7 +320,7 @@ pub(crate) enum Guard {
 }
 
 #[derive(Clone, Copy, Debug, PartialEq, Eq)]
-pub(crate) enum Symbol {
+pub enum Symbol {
     /// A token whose kind has this number.
     Read(u8),
     Expand(Nonterminal),
@@ -329,9 +329,9 @@ pub(crate) enum Symbol {
 
 /// What may take the place of a nonterminal.
 #[derive(Clone, Copy, Debug)]
-pub(crate) struct Row {
-    pub(crate) guard: Guard,
-    pub(crate) symbols: &'static [Symbol],
+pub struct Row {
+    pub guard: Guard,
+    pub symbols: &'static [Symbol],
 }
 """)
     (source / "symbol.rt").write_text("".join(out))
