@@ -3,7 +3,7 @@
 
 The prover checks every entry (crates/py_syntax/proofs/TableSets.antt), so nothing here is trusted.
 
-    tools/table.py            writes crates/py_syntax/specs/Table.antt, and for the code in crates/py_recogniser
+    tools/table.py            writes crates/py_syntax/specs/Table.antt, and for the code in crates/py_table
                               src/symbol.rt, rows.rt, the four files of rows, kind_numbers.rt and sights.rt, and the
                               views of their types, specs/PlainSymbols.antt; `rt fmt` brings them into form
 """
@@ -288,7 +288,7 @@ def rust_symbol(symbol):
 
 
 def write_rust(grammar, follow, begins):
-    source = HERE.parent / "crates/py_recogniser/src"
+    source = HERE.parent / "crates/py_table/src"
     guards = ["are_targets_last", "is_target_last", "is_name_last"]
     actions = all_actions()
     kinds = []
@@ -371,7 +371,7 @@ pub struct Row {
 
 ghost use Rattle.std.specs.Prelude.{{◌≡◌, map}};
 ghost use Rattle.py_syntax.specs.Table.{{rows}};
-ghost use Rattle.py_recogniser.specs.PlainSymbols.{{plain_nonterminal, plain_row}};
+ghost use Rattle.py_table.specs.PlainSymbols.{{plain_nonterminal, plain_row}};
 
 use crate::symbol::{{Nonterminal, Row}};
 """]
@@ -390,8 +390,8 @@ pub(crate) fn rows_of(nonterminal: Nonterminal) -> &'static [Row]
     out = [f"""//! Which row of a nonterminal one token of sight takes. {HEADER}
 
 ghost use Rattle.std.specs.Prelude.{{◌≡◌}};
-ghost use Rattle.py_recogniser.specs.PlainSymbols.{{plain_nonterminal}};
-ghost use Rattle.py_recogniser.specs.RowNumbers.{{row_numbers}};
+ghost use Rattle.py_table.specs.PlainSymbols.{{plain_nonterminal}};
+ghost use Rattle.py_table.specs.RowNumbers.{{row_numbers}};
 
 use crate::symbol::Nonterminal;
 
@@ -416,23 +416,23 @@ abbrev pub row_numbers : meaning.Nonterminal → List ℕ
 """]
     for x, rows in grammar.items():
         out.append(f"row_numbers meaning.{x} = {' ∷ '.join(map(str, row_numbers(x, rows, begins, follow)))} ∷ []\n")
-    (HERE.parent / "crates/py_recogniser/specs/RowNumbers.antt").write_text("".join(out))
+    (HERE.parent / "crates/py_table/specs/RowNumbers.antt").write_text("".join(out))
 
     out = [f"""-- What rows are made of, as the table has it. {HEADER}
 use Rattle.std.specs.Prelude.{{List, map}}
 use Rattle.grammars.specs.Grammar.{{Tok, Non, Do, Always, Where, Guard as PlainGuard, Row as PlainRow}}
 use Rattle.py_syntax.specs.Table as meaning
 use Rattle.py_syntax.specs.Build as build
-use Rattle.py_recogniser.specs.PlainOperators.{{plain_unary, plain_binary, plain_comparison}}
-use Rattle.py_recogniser.specs.declared.symbol.Nonterminal.{{Nonterminal}}
-use Rattle.py_recogniser.specs.declared.symbol.Nonterminal.TheVariants as nonterminal
-use Rattle.py_recogniser.specs.declared.symbol.Action.{{Action}}
-use Rattle.py_recogniser.specs.declared.symbol.Action.TheVariants as action
-use Rattle.py_recogniser.specs.declared.symbol.Guard.{{Guard}}
-use Rattle.py_recogniser.specs.declared.symbol.Guard.TheVariants as guard
-use Rattle.py_recogniser.specs.declared.symbol.Symbol.{{Symbol}}
-use Rattle.py_recogniser.specs.declared.symbol.Symbol.TheVariants as symbol
-use Rattle.py_recogniser.specs.declared.symbol.Row.{{Row}}
+use Rattle.py_ast.specs.PlainOperators.{{plain_unary, plain_binary, plain_comparison}}
+use Rattle.py_table.specs.declared.symbol.Nonterminal.{{Nonterminal}}
+use Rattle.py_table.specs.declared.symbol.Nonterminal.TheVariants as nonterminal
+use Rattle.py_table.specs.declared.symbol.Action.{{Action}}
+use Rattle.py_table.specs.declared.symbol.Action.TheVariants as action
+use Rattle.py_table.specs.declared.symbol.Guard.{{Guard}}
+use Rattle.py_table.specs.declared.symbol.Guard.TheVariants as guard
+use Rattle.py_table.specs.declared.symbol.Symbol.{{Symbol}}
+use Rattle.py_table.specs.declared.symbol.Symbol.TheVariants as symbol
+use Rattle.py_table.specs.declared.symbol.Row.{{Row}}
 
 abbrev pub plain_nonterminal : Nonterminal → meaning.Nonterminal
 """]
@@ -458,7 +458,7 @@ plain_symbols = map plain_symbol
 abbrev pub plain_row : Row → PlainRow meaning.Nonterminal build.Action build.Parts
 plain_row r = record { guard = plain_guard r.guard; symbols = plain_symbols r.symbols.now }
 """)
-    (HERE.parent / "crates/py_recogniser/specs/PlainSymbols.antt").write_text("".join(out))
+    (HERE.parent / "crates/py_table/specs/PlainSymbols.antt").write_text("".join(out))
 
 
 def main():

@@ -1,12 +1,12 @@
 #!/usr/bin/env python3
-"""Writes the views of the code's trees as plain trees: crates/py_parser/specs/PlainExprs.antt and PlainTrees.antt.
+"""Writes the views of the code's trees as plain trees: crates/py_ast/specs/PlainExprs.antt and PlainTrees.antt.
 
 Each is a fold over the tree and an equation for each variant. The prover checks all of it.
 """
 
 from pathlib import Path
 
-SPECS = Path(__file__).parent.parent / "crates/py_parser/specs"
+SPECS = Path(__file__).parent.parent / "crates/py_ast/specs"
 
 # How a field is seen: its type in the code, the view of it, and the view inside a step of the fold, where children are
 # plain already; `None` for a field that has no children.
@@ -153,22 +153,22 @@ use Rattle.std.specs.Prelude.{◌≡◌, ℕ, List, [], ◌∷◌, map, Option, 
 use Rattle.std.specs.Option.{option_map}
 use Rattle.std.proofs.Common.{refl, ap, ap₂, sym, ◌∙◌}
 use Rattle.py_syntax.specs.Tree as meaning
-use Rattle.py_recogniser.specs.PlainOperators.{plain_unary, plain_binary, plain_comparison}
+use Rattle.py_ast.specs.PlainOperators.{plain_unary, plain_binary, plain_comparison}
 use Rattle.py_lexer.specs.PlainTokens.{plain_place}
 use Rattle.shed_base.specs.declared.place.Place.{Place}
 use Rattle.shed_base.specs.declared.names.Name.{Name}
-use Rattle.py_parser.specs.declared.tree.NameAt.{NameAt}
-use Rattle.py_recogniser.specs.declared.operator.UnaryOperator.{UnaryOperator}
-use Rattle.py_recogniser.specs.declared.operator.BinaryOperator.{BinaryOperator}
-use Rattle.py_recogniser.specs.declared.operator.ComparisonOperator.{ComparisonOperator}
-use Rattle.py_parser.specs.declared.tree.LoopTarget.{LoopTarget}
-use Rattle.py_parser.specs.declared.tree.LoopTarget.TheVariants as loop_target
-use Rattle.py_parser.specs.declared.tree.LoopTarget.TheOpen as loop_target_open
-use Rattle.py_parser.specs.declared.tree.LoopTarget.TheFolds.{fold-LoopTarget, fold-roll-LoopTarget}
-use Rattle.py_parser.specs.declared.tree.Expr.{Expr}
-use Rattle.py_parser.specs.declared.tree.Expr.TheVariants as expr
-use Rattle.py_parser.specs.declared.tree.Expr.TheOpen as expr_open
-use Rattle.py_parser.specs.declared.tree.Expr.TheFolds.{fold-Expr, fold-roll-Expr}
+use Rattle.py_ast.specs.declared.tree.NameAt.{NameAt}
+use Rattle.py_ast.specs.declared.operator.UnaryOperator.{UnaryOperator}
+use Rattle.py_ast.specs.declared.operator.BinaryOperator.{BinaryOperator}
+use Rattle.py_ast.specs.declared.operator.ComparisonOperator.{ComparisonOperator}
+use Rattle.py_ast.specs.declared.tree.LoopTarget.{LoopTarget}
+use Rattle.py_ast.specs.declared.tree.LoopTarget.TheVariants as loop_target
+use Rattle.py_ast.specs.declared.tree.LoopTarget.TheOpen as loop_target_open
+use Rattle.py_ast.specs.declared.tree.LoopTarget.TheFolds.{fold-LoopTarget, fold-roll-LoopTarget}
+use Rattle.py_ast.specs.declared.tree.Expr.{Expr}
+use Rattle.py_ast.specs.declared.tree.Expr.TheVariants as expr
+use Rattle.py_ast.specs.declared.tree.Expr.TheOpen as expr_open
+use Rattle.py_ast.specs.declared.tree.Expr.TheFolds.{fold-Expr, fold-roll-Expr}
 
 abbrev pub plain_name : NameAt → meaning.NameAt
 plain_name x = record { place = plain_place x.place; name = x.name.0 }
@@ -335,35 +335,35 @@ def write_exprs():
 
 STMT_HEAD = """-- The code's targets, statements and modules as the plain trees that definitions speak of. `tools/views.py` writes this
 -- file.
-use Rattle.std.specs.Prelude.{◌≡◌, ℕ, List, [], ◌∷◌, map, Option, Some, None}
+use Rattle.std.specs.Prelude.{◌≡◌, List, [], ◌∷◌, map, Option}
 use Rattle.std.specs.Option.{option_map}
 use Rattle.std.proofs.Common.{refl, ap, ap₂, sym, ◌∙◌}
 use Rattle.py_syntax.specs.Tree as meaning
 use Rattle.py_lexer.specs.PlainTokens.{plain_place}
-use Rattle.py_parser.specs.PlainExprs.{plain_name, plain_names, plain_loop_target, plain_expr, plain_maybe}
-use Rattle.py_recogniser.specs.PlainOperators.{plain_binary}
+use Rattle.py_ast.specs.PlainExprs.{plain_name, plain_names, plain_loop_target, plain_expr, plain_maybe}
+use Rattle.py_ast.specs.PlainOperators.{plain_binary}
 use Rattle.shed_base.specs.declared.place.Place.{Place}
-use Rattle.py_parser.specs.declared.tree.NameAt.{NameAt}
-use Rattle.py_recogniser.specs.declared.operator.BinaryOperator.{BinaryOperator}
-use Rattle.py_parser.specs.declared.tree.LoopTarget.{LoopTarget}
-use Rattle.py_parser.specs.declared.tree.Expr.{Expr}
-use Rattle.py_parser.specs.declared.tree.Target.{Target}
-use Rattle.py_parser.specs.declared.tree.Target.TheVariants as target
-use Rattle.py_parser.specs.declared.tree.Targets.{Targets}
-use Rattle.py_parser.specs.declared.tree.Targets.TheVariants as targets
-use Rattle.py_parser.specs.declared.tree.Targets.TheOpen as targets_open
-use Rattle.py_parser.specs.declared.tree.Targets.TheFolds.{fold-Targets, fold-roll-Targets}
-use Rattle.py_parser.specs.declared.tree.Imported.{Imported}
-use Rattle.py_parser.specs.declared.tree.ClassName.{ClassName}
-use Rattle.py_parser.specs.declared.tree.ClassName.TheVariants as class_name
-use Rattle.py_parser.specs.declared.tree.Caught.{Caught}
-use Rattle.py_parser.specs.declared.tree.Caught.TheVariants as caught
-use Rattle.py_parser.specs.declared.tree.Parameter.{Parameter}
-use Rattle.py_parser.specs.declared.tree.Stmt.{Stmt}
-use Rattle.py_parser.specs.declared.tree.Stmt.TheVariants as stmt
-use Rattle.py_parser.specs.declared.tree.Stmt.TheOpen as stmt_open
-use Rattle.py_parser.specs.declared.tree.Stmt.TheFolds.{fold-Stmt, fold-roll-Stmt}
-use Rattle.py_parser.specs.declared.tree.Module.{Module}
+use Rattle.py_ast.specs.declared.tree.NameAt.{NameAt}
+use Rattle.py_ast.specs.declared.operator.BinaryOperator.{BinaryOperator}
+use Rattle.py_ast.specs.declared.tree.LoopTarget.{LoopTarget}
+use Rattle.py_ast.specs.declared.tree.Expr.{Expr}
+use Rattle.py_ast.specs.declared.tree.Target.{Target}
+use Rattle.py_ast.specs.declared.tree.Target.TheVariants as target
+use Rattle.py_ast.specs.declared.tree.Targets.{Targets}
+use Rattle.py_ast.specs.declared.tree.Targets.TheVariants as targets
+use Rattle.py_ast.specs.declared.tree.Targets.TheOpen as targets_open
+use Rattle.py_ast.specs.declared.tree.Targets.TheFolds.{fold-Targets, fold-roll-Targets}
+use Rattle.py_ast.specs.declared.tree.Imported.{Imported}
+use Rattle.py_ast.specs.declared.tree.ClassName.{ClassName}
+use Rattle.py_ast.specs.declared.tree.ClassName.TheVariants as class_name
+use Rattle.py_ast.specs.declared.tree.Caught.{Caught}
+use Rattle.py_ast.specs.declared.tree.Caught.TheVariants as caught
+use Rattle.py_ast.specs.declared.tree.Parameter.{Parameter}
+use Rattle.py_ast.specs.declared.tree.Stmt.{Stmt}
+use Rattle.py_ast.specs.declared.tree.Stmt.TheVariants as stmt
+use Rattle.py_ast.specs.declared.tree.Stmt.TheOpen as stmt_open
+use Rattle.py_ast.specs.declared.tree.Stmt.TheFolds.{fold-Stmt, fold-roll-Stmt}
+use Rattle.py_ast.specs.declared.tree.Module.{Module}
 
 abbrev pub plain_target : Target → meaning.Target
 plain_target (target.Name x) = meaning.TargetName (plain_name x)

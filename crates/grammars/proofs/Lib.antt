@@ -7,5 +7,6 @@ pub mod Sound
 pub mod Complete
 pub mod Chains
 pub mod Completions
+pub mod Least
 pub mod Longest
 pub mod Toy

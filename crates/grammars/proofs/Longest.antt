@@ -8,7 +8,7 @@ use Rattle.grammars.specs.Laws.{Longest, IsFront, IsNoFrontAt}
 use Rattle.grammars.proofs.Bools.{and_right}
 use Rattle.grammars.proofs.Rows.{pick_is_row}
 use Rattle.grammars.proofs.Complete.{IsFollowed, start_followed, row_picked, still_followed}
-use Rattle.grammars.proofs.Completions.{IsAnswered, completable, row_has_specimens, specimens_joined}
+use Rattle.grammars.proofs.Completions.{completable, row_has_specimens, specimens_joined}
 
 -- the longest front of these symbols, with what is left of the tokens
 abbrev pub IsLongest : {N A T V : Type 0} → Grammar N A T V → List (Sym N A) → V → List T → List T → Type 0
@@ -16,7 +16,7 @@ IsLongest {N} {A} {T} {V} G symbols v ts rest =
     (front : List T) × (ts ≡ front ++ rest) × IsFront G symbols v front × IsNoFrontAt G symbols v front rest
 
 -- stuck at once
-at_once : {N A T V : Type 0} (G : Grammar N A T V) (symbols : List (Sym N A)) (v : V) (ts rest : List T) → ts ≡ rest → IsAnswered G symbols v
+at_once : {N A T V : Type 0} (G : Grammar N A T V) (symbols : List (Sym N A)) (v : V) (ts rest : List T) → ts ≡ rest → (more : List T) × (w : V) × Yields G symbols v more w
     → ((more : List T) (w : V) → sight G more ≡ sight G ts → Yields G symbols v more w → ⊥) → IsLongest G symbols v ts rest
 at_once {N} {A} {T} {V} G symbols v ts rest e a n =
     ([], e, (a.0, a.1, a.2), λ more w s y. n more w (s ∙ ap (sight G) (sym e)) y)

@@ -1,11 +1,13 @@
 -- A small grammar, to see that the definitions say what is meant: numbers, and brackets round lists of trees, each with
 -- the sum of what is in it. A list goes on at a comma only while its sum is below ten.
-use Rattle.std.proofs.Common.{◌≡◌, ℕ, ◌+◌, ◌==◌, cond, Bool, true, false, nat_lt, List, [], ◌∷◌, refl, Some, None, inl, inr}
+use Rattle.std.proofs.Common.{◌≡◌, ℕ, ◌+◌, ◌≤◌, ◌==◌, arith, cond, Bool, true, false, nat_lt, List, [], ◌∷◌, refl, Some, None, inl, inr}
 use Rattle.grammars.specs.Grammar.{Sym, Tok, Non, Do, Always, Where, Row, Grammar, Sight}
 use Rattle.grammars.specs.Derivation.{Derives, Yields}
 use Rattle.grammars.specs.Sets.{Sets, is_decided, is_start, is_completable}
+use Rattle.grammars.specs.Least.{AreAbove, IsLow, IsMet}
 use Rattle.grammars.specs.Run.{Done, Stuck, Late, run}
 use Rattle.grammars.proofs.Complete.{one_value}
+use Rattle.grammars.proofs.Least.{forced, reached}
 use Rattle.grammars.proofs.Sound.{sound}
 
 data Place : Type 0 where
@@ -147,3 +149,85 @@ endless = record toy { rows = λ x. row (Tok 1 ∷ Non Tree ∷ []) ∷ record {
 endless_refused : is_completable endless sets Tree ≡ false
 unfolding endless
 endless_refused = refl
+
+-- Sums in an order, stack by stack. A tree is at least 0, and the rest may be nothing.
+abbrev at_most : List ℕ → List ℕ → Type 0
+at_most [] w = Unit {0}
+at_most (a ∷ v) [] = ⊥
+at_most (a ∷ v) (b ∷ w) = (a ≤ b) × at_most v w
+
+abbrev low : Place → List ℕ → List ℕ
+low Tree v = 0 ∷ v
+low Items v = v
+low Tail v = v
+
+abbrev lowest : ℕ → List ℕ → List ℕ
+lowest k v = take_in (specimen k) v
+
+same : (v : List ℕ) → at_most v v
+same [] = tt
+same (a ∷ v) = (omega arith, same v)
+
+further : (u v w : List ℕ) → at_most u v → at_most v w → at_most u w
+further [] v w g h = tt
+further (a ∷ u) [] w g h = absurd g
+further (a ∷ u) (b ∷ v) [] g h = absurd h
+further (a ∷ u) (b ∷ v) (c ∷ w) g h = let p = g.0 in let q = h.0 in (omega arith, further u v w g.1 h.1)
+
+token : (t : Piece) (v : List ℕ) → at_most (lowest (kind t) v) (take_in t v)
+token Open v = same (0 ∷ v)
+token Close v = same v
+token Comma v = same v
+token (Number n) v = (omega arith, same v)
+
+tokens : (t : Piece) (v w : List ℕ) → at_most v w → at_most (take_in t v) (take_in t w)
+tokens Open v w h = (omega arith, h)
+tokens Close v w h = h
+tokens Comma v w h = h
+tokens (Number n) v w h = (omega arith, h)
+
+nonterminals : (x : Place) (v w : List ℕ) → at_most v w → at_most (low x v) (low x w)
+nonterminals Tree v w h = (omega arith, h)
+nonterminals Items v w h = h
+nonterminals Tail v w h = h
+
+actions : (a : Act) (v w : List ℕ) → at_most v w → at_most (act a v) (act a w)
+actions Sum [] w h = tt
+actions Sum (a ∷ []) [] h = absurd h
+actions Sum (a ∷ []) (b ∷ []) h = h
+actions Sum (a ∷ []) (b ∷ c ∷ w) h = let p = h.0 in (omega arith, tt)
+actions Sum (a ∷ b ∷ v) [] h = absurd h
+actions Sum (a ∷ b ∷ v) (c ∷ []) h = absurd h.1
+actions Sum (a ∷ b ∷ v) (c ∷ d ∷ w) h = let p = h.0 in let q = h.1.0 in (omega arith, h.1.1)
+
+one_more : (v : List ℕ) → at_most v (act Sum (0 ∷ v))
+one_more [] = tt
+one_more (a ∷ v) = (omega arith, same v)
+
+above : (x : Place) → AreAbove at_most toy low lowest x (rows x)
+above Tree = (λ v g. same (0 ∷ v), (λ v g. same (0 ∷ v), tt))
+above Items = (λ v g. one_more v, (λ v g. same v, tt))
+above Tail = (λ v g. one_more v, (λ v g. same v, tt))
+
+is_low : IsLow at_most toy low lowest
+is_low = record {
+  same = same;
+  further = further;
+  token = token;
+  tokens = λ k. tokens (specimen k);
+  nonterminals = nonterminals;
+  actions = actions;
+  rows = above;
+}
+
+met : (x : Place) (v : List ℕ) → IsMet toy sets low lowest x v
+met Tree v = (row (Tok 4 ∷ []), inl refl, refl, refl, refl, refl)
+met Items v = (row [], inr (inl refl), refl, refl, refl, refl)
+met Tail v = (row [], inr (inl refl), refl, refl, refl, refl)
+
+-- no tree has less than 0, and some tree has it
+no_less : (ts : List Piece) (a : ℕ) → Yields toy (Non Tree ∷ []) [] ts (a ∷ []) → 0 ≤ a
+no_less ts a y = (forced at_most toy low lowest is_low (Non Tree ∷ []) [] ts (a ∷ []) y).0
+
+reaches : (ts : List Piece) × Yields toy (Non Tree ∷ []) [] ts (0 ∷ [])
+reaches = reached toy sets low lowest (record { token = λ k v. refl; rows = met }) (Non Tree ∷ []) [] refl

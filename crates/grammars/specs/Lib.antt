@@ -4,3 +4,4 @@ pub mod Sets
 pub mod Run
 pub mod Laws
 pub mod Alike
+pub mod Least

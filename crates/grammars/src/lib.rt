@@ -8,6 +8,7 @@
 ghost use Rattle.std.specs.Prelude.{List};
 ghost use Rattle.grammars.specs.Alike.{RunsAgree};
 ghost use Rattle.grammars.specs.Laws.{ChainOf, Sound, Complete, OneValue, Longest, Begins, Completable};
+ghost use Rattle.grammars.specs.Least.{Forced, Reached};
 
 /// What is run to its end is derived.
 pub fn run_is_sound<N, A, T, V>()
@@ -57,4 +58,20 @@ pub trait Correspondence<V, W> {
 /// Where actions and tokens keep a correspondence of values, runs keep it.
 pub fn runs_keep_what_actions_keep<N, A, T, V, W, C: Correspondence<V, W>>()
     ensures law { RunsAgree N A T V W C.stands }
+{}
+
+/// An order of values.
+pub trait Order<V> {
+    ghost at_most: { V → V → Type 0 };
+}
+
+/// Where tokens, nonterminals and actions keep an order, and no row leads to less than its nonterminal is said to, nothing
+/// that symbols derive leads to less.
+pub fn completions_lead_to_no_less<N, A, T, V, O: Order<V>>()
+    ensures law { Forced N A T V O.at_most }
+{}
+
+/// Where rows lead to just what is said, some tokens do.
+pub fn least_is_reached<N, A, T, V>()
+    ensures law { Reached N A T V }
 {}

@@ -8,8 +8,8 @@ use Rattle.py_meaning.specs.Rules.{are_reads_sure}
 use Rattle.py_meaning.specs.Tree as meaning
 use Rattle.py_meaning.specs.Built.{both, built_stmt, built_body, unbuilt, first_place}
 use Rattle.py_meaning.proofs.BuiltLaws.{nothing_unbuilt}
-use Rattle.py_parser.specs.declared.tree.Stmt.{Stmt as WholeStmt}
-use Rattle.py_parser.specs.PlainTrees as whole_trees
+use Rattle.py_ast.specs.declared.tree.Stmt.{Stmt as WholeStmt}
+use Rattle.py_ast.specs.PlainTrees as whole_trees
 use Rattle.py_built.specs.declared.tree.Stmt.{Stmt}
 use Rattle.py_built.specs.PlainTrees.{plain_stmt, plain_body}
 use Rattle.py_built.specs.Forms.{behind}

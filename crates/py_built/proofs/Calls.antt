@@ -2,9 +2,9 @@
 use Rattle.std.proofs.Common.{◌≡◌, List, [], ◌∷◌, length, None, refl}
 use Rattle.py_tokens.specs.Token.{Place}
 use Rattle.py_syntax.specs.Tree as whole
-use Rattle.py_parser.specs.declared.tree.Expr.{Expr}
-use Rattle.py_parser.specs.declared.tree.NameAt.{NameAt}
-use Rattle.py_parser.specs.PlainExprs.{plain_exprs, plain_keywords}
+use Rattle.py_ast.specs.declared.tree.Expr.{Expr}
+use Rattle.py_ast.specs.declared.tree.NameAt.{NameAt}
+use Rattle.py_ast.specs.PlainExprs.{plain_exprs, plain_keywords}
 use Rattle.py_meaning.specs.Name.{Name}
 use Rattle.py_meaning.specs.Built.{printed}
 

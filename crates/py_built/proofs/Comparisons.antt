@@ -3,9 +3,9 @@ use Rattle.std.proofs.Common.{◌≡◌, List, [], ◌∷◌, length, Option, So
 use Rattle.py_tokens.specs.Token.{Place}
 use Rattle.py_syntax.specs.Tree as whole
 use Rattle.shed_base.specs.declared.place.Place.{Place as CodePlace}
-use Rattle.py_recogniser.specs.declared.operator.ComparisonOperator.{ComparisonOperator}
-use Rattle.py_parser.specs.declared.tree.Expr.{Expr}
-use Rattle.py_parser.specs.PlainExprs.{plain_links}
+use Rattle.py_ast.specs.declared.operator.ComparisonOperator.{ComparisonOperator}
+use Rattle.py_ast.specs.declared.tree.Expr.{Expr}
+use Rattle.py_ast.specs.PlainExprs.{plain_links}
 use Rattle.py_meaning.specs.Name.{Name}
 use Rattle.py_meaning.specs.Tree.{Comparison}
 use Rattle.py_meaning.specs.Built.{first_place, built_comparison, unless_compared, unbuilt_expr, unbuilt_condition}

@@ -4,9 +4,9 @@ use Rattle.std.specs.Prelude.{◌||◌, if◌then◌else◌, map, string_bytes, 
 use Rattle.std.specs.Str.{bytes_eq}
 use Rattle.std.specs.String.{string_eq}
 use Rattle.std.specs.List.{list_any}
-use Rattle.std.proofs.lemmas.List.{map-append}
 use Rattle.std.proofs.lemmas.Slice.Eq.{bytes_eq-Decides}
 use Rattle.std.proofs.lemmas.Bool.Decides.{same_from_decides}
+use Rattle.shed_base.proofs.NamesPlaced.{added as added_last}
 use Rattle.py_meaning.specs.Name.{Name, same_name}
 use Rattle.py_meaning.specs.Rules.{has_name}
 use Rattle.py_built.specs.Names.{with_name, Alike}
@@ -27,11 +27,7 @@ kept keys x e =
 
 pub added : {Y : Type 0} (old new : List (String Y)) (k : String Y) (x : List ℕ) → string_bytes k ≡ x → list_any (λ j. bytes_eq x (string_bytes j)) old ≡ false → new ≡ (if list_any (string_eq k) old then old else old ++ k ∷ []) → map string_bytes new ≡ with_name (map string_bytes old) x
 added old new k x is absent e =
-    let lacks : list_any (string_eq k) old ≡ false = ap (λ y. list_any (λ j. bytes_eq y (string_bytes j)) old) is ∙ absent in
-    ap (λ ks. map string_bytes ks) e
-    ∙ ap (λ b. map string_bytes (if b then old else old ++ k ∷ [])) lacks
-    ∙ map-append string_bytes old (k ∷ [])
-    ∙ ap (λ y. map string_bytes old ++ y ∷ []) is
+    added_last old new k x is absent e
     ∙ ap (λ b. if b then map string_bytes old else map string_bytes old ++ x ∷ []) (sym absent ∙ any_is_has old x)
 
 -- only whether a name is there counts

@@ -1,8 +1,8 @@
 -- The loops over statements: what was found, and what is found behind it.
 use Rattle.std.proofs.Common.{◌≡◌, ℕ, suc, ◌+◌, ◌<◌, List, ◌∷◌, ◌++◌, length, drop, get_or, Option, refl, sym, ap, ◌∙◌, add-one, drop-cons}
 use Rattle.py_tokens.specs.Token.{Place}
-use Rattle.py_parser.specs.declared.tree.Stmt.{Stmt}
-use Rattle.py_parser.specs.PlainTrees.{plain_stmt, plain_body}
+use Rattle.py_ast.specs.declared.tree.Stmt.{Stmt}
+use Rattle.py_ast.specs.PlainTrees.{plain_stmt, plain_body}
 use Rattle.py_meaning.specs.Name.{Name}
 use Rattle.py_meaning.specs.Built.{first_place, sure_behind, unbuilt_stmt, unbuilt_block, unbuilt}
 use Rattle.py_built.specs.First.{earliest}

@@ -7,8 +7,8 @@ ghost use Rattle.std.specs.Prelude.{◌≡◌, [], true, Some, IfOk, IfErr};
 ghost use Rattle.py_meaning.specs.Built.{built_expr, built_condition, built_stmt, built_body, unbuilt, first_place};
 ghost use Rattle.py_meaning.specs.Rules.{are_reads_sure};
 ghost use Rattle.py_lexer.specs.PlainTokens.{plain_place};
-ghost use Rattle.py_parser.specs.PlainExprs as whole_exprs;
-ghost use Rattle.py_parser.specs.PlainTrees as whole_trees;
+ghost use Rattle.py_ast.specs.PlainExprs as whole_exprs;
+ghost use Rattle.py_ast.specs.PlainTrees as whole_trees;
 ghost use Rattle.py_built.specs.PlainTrees.{plain_expr, plain_condition, plain_stmt, plain_body, plain};
 
 use crate::forms::{assigned, printed};
@@ -16,13 +16,12 @@ use crate::names::variable;
 use crate::operators::{build_binary, build_comparison};
 use crate::tree::{Condition, Expr, Module, Stmt, UnaryOperator};
 use crate::unbuilt::first_unbuilt;
-use py_parser::tree as whole;
-use py_recogniser::operator;
+use py_ast as whole;
 use shed_base::{Names, NoMemory, Place};
 use sqlite_items::{Boxed, Items};
 use std::alloc::Global;
 
-#[tactic(auto, using(py_parser::specs::PlainExprs::plain_exprs_by_variant, crate::specs::PlainTrees::plains))]
+#[tactic(auto, using(py_ast::specs::PlainExprs::plain_exprs_by_variant, crate::specs::PlainTrees::plains))]
 fn build_expr(alloc: Global, names: &Names, expr: &whole::Expr) -> Result<Expr, NoMemory>
     ensures { IfOk result (λ e. built_expr names.now (whole_exprs.plain_expr expr.now) ≡ Some (plain_expr e)) }
 {
@@ -36,7 +35,7 @@ fn build_expr(alloc: Global, names: &Names, expr: &whole::Expr) -> Result<Expr, 
             Err(_) => Err(NoMemory),
         },
         whole::Expr::Unary(place, operator, operand) => match operator {
-            operator::UnaryOperator::Negative => {
+            whole::UnaryOperator::Negative => {
                 let operand = Boxed::new(alloc, build_expr(alloc, names, operand.get())?)?;
                 Ok(Expr::Unary(*place, UnaryOperator::Negative, operand))
             }
@@ -59,7 +58,7 @@ fn build_expr(alloc: Global, names: &Names, expr: &whole::Expr) -> Result<Expr, 
     }
 }
 
-#[tactic(auto, using(py_parser::specs::PlainExprs::plain_exprs_by_variant))]
+#[tactic(auto, using(py_ast::specs::PlainExprs::plain_exprs_by_variant))]
 fn build_condition(alloc: Global, names: &Names, expr: &whole::Expr) -> Result<Condition, NoMemory>
     ensures { IfOk result (λ c. built_condition names.now (whole_exprs.plain_expr expr.now) ≡ Some (plain_condition c)) }
 {
@@ -85,7 +84,7 @@ fn build_condition(alloc: Global, names: &Names, expr: &whole::Expr) -> Result<C
 }
 
 #[cycle(statements)]
-#[tactic(auto, using(py_parser::specs::PlainTrees::plain_stmts_by_variant, crate::specs::PlainTrees::plain_stmts))]
+#[tactic(auto, using(py_ast::specs::PlainTrees::plain_stmts_by_variant, crate::specs::PlainTrees::plain_stmts))]
 fn build_stmt(alloc: Global, names: &Names, stmt: &whole::Stmt) -> Result<Stmt, NoMemory>
     ensures { IfOk result (λ s. built_stmt names.now (whole_trees.plain_stmt stmt.now) ≡ Some (plain_stmt s)) }
 {

@@ -6,15 +6,15 @@ ghost use Rattle.py_meaning.specs.Built as built;
 ghost use Rattle.py_built.specs.Forms.{name_of};
 ghost use Rattle.py_syntax.specs.Tree.{ECall};
 ghost use Rattle.py_lexer.specs.PlainTokens.{plain_place};
-ghost use Rattle.py_parser.specs.PlainExprs.{plain_expr, plain_exprs, plain_keywords};
-ghost use Rattle.py_parser.specs.PlainTrees.{plain_targets, plain_target_lists};
+ghost use Rattle.py_ast.specs.PlainExprs.{plain_expr, plain_exprs, plain_keywords};
+ghost use Rattle.py_ast.specs.PlainTrees.{plain_targets, plain_target_lists};
 
 use crate::names::{is_print, variable};
-use py_parser::tree::{Expr, NameAt, Target, Targets};
+use py_ast::{Expr, NameAt, Target, Targets};
 use shed_base::{Name, Names, Place};
 
 // The name that a target is, if it is one and a variable.
-#[tactic(auto, using(py_parser::specs::PlainTrees::plain_targets_by_variant))]
+#[tactic(auto, using(py_ast::specs::PlainTrees::plain_targets_by_variant))]
 fn target<'a>(names: &'a Names, targets: &Targets) -> Option<&'a str>
     ensures { option_copied result ≡ built.assigned names.now (plain_targets targets.now ∷ []) }
 {
@@ -41,7 +41,7 @@ pub(crate) fn assigned<'a>(names: &'a Names, targets: &[Targets]) -> Option<&'a 
 }
 
 // The name that an expression is.
-#[tactic(auto, using(py_parser::specs::PlainExprs::plain_exprs_by_variant))]
+#[tactic(auto, using(py_ast::specs::PlainExprs::plain_exprs_by_variant))]
 fn named(expr: &Expr) -> Option<Name>
     ensures { option_map (λ name. name.0) result ≡ name_of (plain_expr expr.now) }
 {
@@ -101,7 +101,7 @@ fn printed_by<'a>(
 }
 
 /// The one argument of a call of `print`, with the place of the call.
-#[tactic(auto, using(py_parser::specs::PlainExprs::plain_exprs_by_variant))]
+#[tactic(auto, using(py_ast::specs::PlainExprs::plain_exprs_by_variant))]
 pub(crate) fn printed<'a>(names: &Names, expr: &'a Expr) -> Option<(Place, &'a Expr)>
     ensures { option_map (λ call. (plain_place call.0, plain_expr call.1.now)) result ≡ built.printed names.now (plain_expr expr.now) }
 {

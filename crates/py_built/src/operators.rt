@@ -3,11 +3,11 @@
 ghost use Rattle.std.specs.Prelude.{◌≡◌};
 ghost use Rattle.std.specs.Option.{option_map};
 ghost use Rattle.py_meaning.specs.Built.{built_binary, built_comparison};
-ghost use Rattle.py_recogniser.specs.PlainOperators as whole_operators;
+ghost use Rattle.py_ast.specs.PlainOperators as whole_operators;
 ghost use Rattle.py_built.specs.PlainTrees.{plain_binary, plain_comparison};
 
 use crate::tree::{BinaryOperator, Comparison};
-use py_recogniser::operator as whole;
+use py_ast as whole;
 
 /// An operator between two values, if it is built.
 pub(crate) fn build_binary(operator: whole::BinaryOperator) -> Option<BinaryOperator>

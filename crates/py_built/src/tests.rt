@@ -1,6 +1,5 @@
 use crate::build;
-use py_parser::tree::{Expr, Module, NameAt, Stmt, Target, Targets};
-use py_recogniser::operator::{BinaryOperator, ComparisonOperator};
+use py_ast::{BinaryOperator, ComparisonOperator, Expr, Module, NameAt, Stmt, Target, Targets};
 use shed_base::{Name, Names, NoMemory, Place};
 use sqlite_items::{Boxed, Items};
 use std::alloc::{AllocError, Global};

@@ -6,9 +6,9 @@ ghost use Rattle.py_meaning.specs.Built as built;
 ghost use Rattle.py_meaning.specs.Rules.{has_name};
 ghost use Rattle.py_syntax.specs.Tree.{ECompare};
 ghost use Rattle.py_lexer.specs.PlainTokens.{plain_place};
-ghost use Rattle.py_recogniser.specs.PlainOperators.{plain_comparison};
-ghost use Rattle.py_parser.specs.PlainExprs.{plain_expr, plain_exprs, plain_links};
-ghost use Rattle.py_parser.specs.PlainTrees.{plain_stmt, plain_body};
+ghost use Rattle.py_ast.specs.PlainOperators.{plain_comparison};
+ghost use Rattle.py_ast.specs.PlainExprs.{plain_expr, plain_exprs, plain_links};
+ghost use Rattle.py_ast.specs.PlainTrees.{plain_stmt, plain_body};
 ghost use Rattle.py_built.specs.First as first;
 ghost use Rattle.py_built.specs.Names.{texts, Alike};
 
@@ -16,8 +16,7 @@ use crate::forms::{assigned, printed};
 use crate::names::{bind, has, variable};
 use crate::operators::{build_binary, build_comparison};
 use indexmap::IndexSet;
-use py_parser::tree::{Expr, Stmt};
-use py_recogniser::operator::{ComparisonOperator, UnaryOperator};
+use py_ast::{ComparisonOperator, Expr, Stmt, UnaryOperator};
 use shed_base::{Name, Names, Place};
 use std::alloc::{AllocError, Global};
 
@@ -59,7 +58,7 @@ fn is_sure(names: &Names, sure: &IndexSet<String>, name: Name) -> bool
 
 // In an expression that is a value.
 #[cycle(values)]
-#[tactic(auto, using(py_parser::specs::PlainExprs::plain_exprs_by_variant, crate::proofs::FirstPlaces::firsts))]
+#[tactic(auto, using(py_ast::specs::PlainExprs::plain_exprs_by_variant, crate::proofs::FirstPlaces::firsts))]
 fn unbuilt_expr(names: &Names, sure: &IndexSet<String>, expr: &Expr) -> Option<Place>
     ensures { option_map plain_place result ≡ built.first_place (built.unbuilt_expr names.now (texts sure.now) (plain_expr expr.now)) }
 {
@@ -145,7 +144,7 @@ fn unbuilt_comparison(
 }
 
 // In what an `if` or a `while` tests.
-#[tactic(auto, using(py_parser::specs::PlainExprs::plain_exprs_by_variant))]
+#[tactic(auto, using(py_ast::specs::PlainExprs::plain_exprs_by_variant))]
 fn unbuilt_condition(names: &Names, sure: &IndexSet<String>, expr: &Expr) -> Option<Place>
     ensures { option_map plain_place result ≡ built.first_place (built.unbuilt_condition names.now (texts sure.now) (plain_expr expr.now)) }
 {
@@ -189,7 +188,7 @@ fn unbuilt_condition(names: &Names, sure: &IndexSet<String>, expr: &Expr) -> Opt
 
 // In a statement.
 #[cycle(statements)]
-#[tactic(auto, using(py_parser::specs::PlainTrees::plain_stmts_by_variant, crate::proofs::FirstPlaces::firsts))]
+#[tactic(auto, using(py_ast::specs::PlainTrees::plain_stmts_by_variant, crate::proofs::FirstPlaces::firsts))]
 fn unbuilt_stmt(names: &Names, sure: &IndexSet<String>, stmt: &Stmt) -> Option<Place>
     ensures { option_map plain_place result ≡ built.first_place (built.unbuilt_stmt names.now (texts sure.now) (plain_stmt stmt.now)) }
 {
@@ -245,7 +244,7 @@ fn unbuilt_block(names: &Names, sure: &IndexSet<String>, body: &[Stmt]) -> Optio
 }
 
 // Adds the name that a statement of the module itself assigns to.
-#[tactic(auto, using(py_parser::specs::PlainTrees::plain_stmts_by_variant))]
+#[tactic(auto, using(py_ast::specs::PlainTrees::plain_stmts_by_variant))]
 fn bind_assigned(
     alloc: Global,
     names: &Names,

@@ -1,5 +1,5 @@
 -- The parts that are built stand for themselves.
-use Rattle.std.proofs.Common.{◌≡◌, ℕ, List, [], ◌∷◌, refl, sym, ap, ◌∙◌, subst}
+use Rattle.std.proofs.Common.{◌≡◌, ℕ, List, [], ◌∷◌, sym, ap, ◌∙◌, subst}
 use Rattle.grammars.specs.Run.{Done, run}
 use Rattle.py_syntax.specs.Token.{Token}
 use Rattle.py_syntax.specs.Tree.{Body}
@@ -8,9 +8,9 @@ use Rattle.py_syntax.specs.Grammar.{IsModule}
 use Rattle.py_syntax.specs.Table.{table, sets}
 use Rattle.py_syntax.specs.Laws.{goal, start}
 use Rattle.py_syntax.proofs.TableLaws.{run_builds_tree}
-use Rattle.py_parser.specs.PlainParts.{parts_of}
-use Rattle.py_parser.proofs.Stacks.{parts_of-nothing}
-use Rattle.py_parser.specs.declared.parts.Part.{Part}
+use Rattle.parser_parts.specs.PlainParts.{parts_of}
+use Rattle.parser_parts.proofs.Stacks.{parts_of-nothing}
+use Rattle.parser_parts.specs.declared.parts.Part.{Part}
 
 pub starts_empty : (texts : List (List ℕ)) (parts : List Part) → parts ≡ [] → parts_of texts parts ≡ start
 starts_empty texts parts e = ap (parts_of texts) e ∙ parts_of-nothing texts

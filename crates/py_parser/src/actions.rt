@@ -2,14 +2,10 @@
 
 ghost use Rattle.std.specs.Prelude.{ℕ, ◌≡◌, List, OnOk};
 ghost use Rattle.py_syntax.specs.Build as build;
-ghost use Rattle.py_recogniser.specs.PlainSymbols.{plain_action};
-ghost use Rattle.py_parser.specs.PlainParts.{parts_of};
+ghost use Rattle.py_table.specs.PlainSymbols.{plain_action};
+ghost use Rattle.parser_parts.specs.PlainParts.{parts_of};
 
-use crate::definitions::{
-    add_base, add_default, add_imported, add_imported_as, add_parameter, begin_class, begin_def,
-    begin_from, begin_import, end_class, end_def, make_class_name, make_class_within,
-};
-use crate::expressions::{
+use parser_expressions::{
     add_and, add_argument, add_condition, add_item, add_keyword, add_link, add_loop, add_loop_name,
     add_or, add_pair, add_upper, begin_call, begin_comprehension, begin_dict, begin_loop,
     drop_token, make_and, make_attribute, make_binary, make_compare, make_conditional,
@@ -18,14 +14,16 @@ use crate::expressions::{
     make_none, make_not, make_or, make_parenthesis, make_set, make_set_of_one, make_sign,
     make_slice, make_slice_from, make_subscript, make_true, make_tuple, make_unary,
 };
-use crate::parts::Part;
-use crate::statements::{
-    add_global, add_stmt, add_targets, begin_body, begin_global, begin_try, catch, catch_all,
-    catch_as, make_assert, make_assert_message, make_assign, make_augmented, make_break,
-    make_continue, make_delete, make_elif, make_else, make_expr_stmt, make_for, make_if, make_pass,
-    make_raise, make_return, make_return_value, make_targets, make_while, make_yield,
+use parser_parts::Part;
+use parser_statements::{
+    add_base, add_default, add_global, add_imported, add_imported_as, add_parameter, add_stmt,
+    add_targets, begin_body, begin_class, begin_def, begin_from, begin_global, begin_import,
+    begin_try, catch, catch_all, catch_as, end_class, end_def, make_assert, make_assert_message,
+    make_assign, make_augmented, make_break, make_class_name, make_class_within, make_continue,
+    make_delete, make_elif, make_else, make_expr_stmt, make_for, make_if, make_pass, make_raise,
+    make_return, make_return_value, make_targets, make_while, make_yield,
 };
-use py_recogniser::symbol::Action;
+use py_table::symbol::Action;
 use std::alloc::{AllocError, Global};
 
 pub(crate) fn act(

@@ -5,20 +5,20 @@ ghost use Rattle.std.specs.Option.{option_map, option_copied};
 ghost use Rattle.grammars.specs.Grammar.{allows};
 ghost use Rattle.py_syntax.specs.Build as build_parts;
 ghost use Rattle.py_syntax.specs.Grammar.{IsModule};
-ghost use Rattle.py_parser.specs.PlainExprs.{plain_expr};
-ghost use Rattle.py_parser.specs.PlainParts.{parts_of, last_expr};
-ghost use Rattle.py_recogniser.specs.PlainSymbols.{plain_guard};
-ghost use Rattle.py_recogniser.specs.PlainTokens.{plain_tokens};
-ghost use Rattle.py_parser.specs.PlainTrees.{plain};
+ghost use Rattle.py_ast.specs.PlainExprs.{plain_expr};
+ghost use Rattle.parser_parts.specs.PlainParts.{parts_of, last_expr};
+ghost use Rattle.py_table.specs.PlainSymbols.{plain_guard};
+ghost use Rattle.py_table.specs.PlainTokens.{plain_tokens};
+ghost use Rattle.py_ast.specs.PlainTrees.{plain};
 
 use crate::actions::act;
-use crate::parts::{Part, pop_body, push};
-use crate::targets::{are_targets, is_name, is_target};
-use crate::tree::{Expr, Module};
+use parser_parts::{Part, pop_body, push};
+use parser_targets::{are_targets, is_name, is_target};
+use py_ast::{Expr, Module};
 use py_lexer::token::Token;
-use py_recogniser::run::{Outcome, run};
-use py_recogniser::symbol::{Action, Guard};
-use py_recogniser::values::Values;
+use py_table::run::{Outcome, run};
+use py_table::symbol::{Action, Guard};
+use py_table::values::Values;
 use shed_base::Names;
 use std::alloc::{AllocError, Global};
 
@@ -29,7 +29,7 @@ pub(crate) struct Built<'a> {
 }
 
 /// The expression that was built last.
-#[tactic(auto, using(crate::proofs::Stacks::stacks))]
+#[tactic(auto, using(parser_parts::proofs::Stacks::stacks))]
 fn last_built<'a>(parts: &'a [Part<'_>]) -> Option<&'a Expr>
     ensures { (texts : List (List ℕ)) → option_map plain_expr (option_copied result) ≡ last_expr (parts_of texts parts.now) }
 {

@@ -3,12 +3,7 @@
 
 mod actions;
 mod building;
-mod definitions;
-mod expressions;
 mod parser;
-mod parts;
-mod statements;
-mod targets;
-pub mod tree;
 
 pub use parser::parse;
+pub use py_ast as tree;

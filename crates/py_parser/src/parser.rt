@@ -3,12 +3,12 @@
 ghost use Rattle.std.specs.Prelude.{◌≡◌, IfOk, IfErr};
 ghost use Rattle.py_syntax.specs.Grammar.{IsModule};
 ghost use Rattle.py_syntax.specs.Heights.{IsShallow};
-ghost use Rattle.py_recogniser.specs.PlainTokens.{plain_tokens};
+ghost use Rattle.py_table.specs.PlainTokens.{plain_tokens};
 ghost use Rattle.py_recogniser.specs.Refused.{IsParseRefused};
-ghost use Rattle.py_parser.specs.PlainTrees.{plain};
+ghost use Rattle.py_ast.specs.PlainTrees.{plain};
 
 use crate::building::build;
-use crate::tree::Module;
+use py_ast::Module;
 use py_lexer::token::Token;
 use py_recogniser::recognise;
 use py_recogniser::refusal::ParseRefusal;

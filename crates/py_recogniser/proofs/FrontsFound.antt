@@ -10,7 +10,7 @@ use Rattle.py_lexer.specs.PlainTokens.{plain_place, plain_kind as text_kind, pla
 use Rattle.py_lexer.specs.declared.token.TokenKind.{TokenKind}
 use Rattle.py_lexer.specs.declared.token.TokenKind.TheVariants as kind
 use Rattle.py_lexer.specs.declared.token.Token.{Token as TokenRead}
-use Rattle.py_recogniser.specs.PlainTokens.{plain_kind, plain_tokens}
+use Rattle.py_table.specs.PlainTokens.{plain_kind, plain_tokens}
 use Rattle.py_recogniser.specs.Recognised.{IsRest}
 use Rattle.py_recogniser.specs.Refused.{last_place, IsFound}
 use Rattle.shed_base.specs.declared.place.Place.{Place}

@@ -1,9 +1,3 @@
-pub mod PlainOperators
-pub mod PlainSymbols
-pub mod PlainTokens
-pub mod Sights
-pub mod RowNumbers
 pub mod PlainMeasures
-pub mod Steps
 pub mod Recognised
 pub mod Refused

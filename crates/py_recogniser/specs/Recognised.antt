@@ -5,7 +5,7 @@ use Rattle.py_syntax.specs.Tree.{Body}
 use Rattle.py_syntax.specs.Grammar.{IsModule}
 use Rattle.py_syntax.specs.Laws.{IsLongestFront}
 use Rattle.py_syntax.specs.Heights.{IsShallow, body_height}
-use Rattle.py_recogniser.specs.PlainTokens.{plain_tokens}
+use Rattle.py_table.specs.PlainTokens.{plain_tokens}
 use Rattle.py_recogniser.specs.declared.measuring.Measured.{Measured}
 use Rattle.py_recogniser.specs.declared.measuring.Measured.TheVariants as measured
 

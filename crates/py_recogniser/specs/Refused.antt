@@ -7,7 +7,7 @@ use Rattle.py_syntax.specs.Laws.{IsLongestFront}
 use Rattle.py_syntax.specs.Heights.{IsShallow}
 use Rattle.py_lexer.specs.PlainTokens.{plain_place, plain_kind, plain_tokens as text_tokens}
 use Rattle.py_lexer.specs.declared.token.Token.{Token as TokenRead}
-use Rattle.py_recogniser.specs.PlainTokens.{plain_tokens}
+use Rattle.py_table.specs.PlainTokens.{plain_tokens}
 use Rattle.shed_base.specs.declared.place.Place.{Place}
 use Rattle.py_recogniser.specs.declared.refusal.Found.{Found}
 use Rattle.py_recogniser.specs.declared.refusal.Found.TheVariants as found

@@ -2,7 +2,7 @@
 
 ghost use Rattle.std.specs.Prelude.{◌≡◌, ◌∷◌, suc, max, IfOk, OnOk};
 ghost use Rattle.py_syntax.specs.Measures.{NameToken, MToken, MExpr, MClass, MBody, is_target as is_form_of_target, are_targets as is_form_of_targets, measured};
-ghost use Rattle.py_recogniser.specs.PlainSymbols.{plain_action};
+ghost use Rattle.py_table.specs.PlainSymbols.{plain_action};
 ghost use Rattle.py_recogniser.specs.PlainMeasures.{plain_token_form, plain_form, plain_class_name_form, plain_measure, measures_of};
 
 use crate::measured_expressions::{
@@ -20,7 +20,7 @@ use crate::measured_statements::{
     make_class_name, make_class_within, make_delete, make_elif, make_else, make_expr_stmt,
     make_for, make_if, make_pass, make_return_value, make_targets, make_while,
 };
-use crate::symbol::Action;
+use py_table::symbol::Action;
 use std::alloc::AllocError;
 
 /// What a token is, as far as actions ask.

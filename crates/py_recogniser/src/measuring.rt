@@ -2,15 +2,15 @@
 
 ghost use Rattle.std.specs.Prelude.{ℕ, ◌≡◌, List, [], ◌∷◌, map, IfOk, OnOk};
 ghost use Rattle.py_syntax.specs.Measures.{measure as measure_of_part, measured_targets_last, measured_target_last, measured_name_last, token_form as form_of_token};
-ghost use Rattle.py_recogniser.specs.PlainTokens.{plain_token, plain_tokens};
+ghost use Rattle.py_table.specs.PlainTokens.{plain_token, plain_tokens};
 ghost use Rattle.py_recogniser.specs.PlainMeasures.{plain_token_form, measures_of};
 ghost use Rattle.py_recogniser.specs.Recognised.{IsMeasured};
 
 use crate::measures::{ExprForm, Measure, TokenForm, act, are_targets, is_target, push};
-use crate::run::{Outcome, run};
-use crate::symbol::{Action, Guard};
-use crate::values::Values;
 use py_lexer::token::{Token, TokenKind};
+use py_table::run::{Outcome, run};
+use py_table::symbol::{Action, Guard};
+use py_table::values::Values;
 use shed_base::Names;
 use std::alloc::{AllocError, Global};
 

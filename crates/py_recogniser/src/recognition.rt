@@ -2,7 +2,7 @@
 
 ghost use Rattle.std.specs.Prelude.{ℕ, ◌≡◌, ◌≤◌, List, [], ◌∷◌, IfOk, IfErr};
 ghost use Rattle.py_lexer.specs.PlainTokens.{plain_place, plain_kind, plain_tokens as text_tokens};
-ghost use Rattle.py_recogniser.specs.PlainTokens.{plain_tokens};
+ghost use Rattle.py_table.specs.PlainTokens.{plain_tokens};
 ghost use Rattle.py_recogniser.specs.Recognised.{IsRecognised};
 ghost use Rattle.py_recogniser.specs.Refused.{last_place, IsFound, IsParseRefused};
 

@@ -2,12 +2,12 @@
 use Rattle.std.proofs.Common.{◌≡◌, ℕ, ◌≤◌, List, ◌∷◌, inl, inr, codes, refl, sym, ap, ◌∙◌, subst, subst₂, arith}
 use Rattle.py_tokens.specs.Token.{Place}
 use Rattle.py_syntax.specs.Token.{Kind, TKeyword, Token, At}
-use Rattle.py_syntax.specs.Tree.{UnaryOperator, Negative, Positive, Invert, BinaryOperator, BitOr, BitXor, BitAnd, LeftShift, RightShift, Add, Subtract, Multiply, FloorDivide, Modulo, Power, ComparisonOperator, Less, Greater, LessOrEqual, GreaterOrEqual, Equal, NotEqual, In, NotIn, Is, IsNot, ETuple, EUnary, EBinary, ECompare, ENot, EAnd, EOr, EConditional, Exprs, no_exprs, more_exprs, Links, no_links, more_links}
+use Rattle.py_syntax.specs.Tree.{UnaryOperator, Negative, Positive, Invert, BinaryOperator, BitOr, BitXor, BitAnd, LeftShift, RightShift, Add, Subtract, Multiply, FloorDivide, Modulo, Power, ComparisonOperator, Expr, Less, Greater, LessOrEqual, GreaterOrEqual, Equal, NotEqual, In, NotIn, Is, IsNot, ETuple, EUnary, EBinary, ECompare, ENot, EAnd, EOr, EConditional, Exprs, no_exprs, more_exprs, Links, no_links, more_links}
 use Rattle.py_syntax.specs.Grammar.{word, sign, binary_level, left_level, right_level, binary_sign, unary_sign, IsComparison, IsEndOrComma, IsExpr, AreItems, AreLinks, AreChained}
-use Rattle.py_syntax.specs.Build.{Parts, PToken, PExpr, PSign, MakeTuple, AddItem, MakeUnary, MakeBinary, MakeSign, MakeLongSign, MakeCompare, AddLink, MakeNot, MakeAnd, AddAnd, MakeOr, AddOr, MakeConditional, with_expr, with_link, act}
+use Rattle.py_syntax.specs.Build.{Parts, Action, PToken, PExpr, PSign, MakeTuple, AddItem, MakeUnary, MakeBinary, MakeSign, MakeLongSign, MakeCompare, AddLink, MakeNot, MakeAnd, AddAnd, MakeOr, AddOr, MakeConditional, with_expr, with_link, act}
 use Rattle.py_syntax.specs.Table.{ExpressionList, ExpressionListTail, ItemMore, ItemNext, Expression, ExpressionTail, OrTest, OrTail, OrMore, AndTest, AndTail, AndMore, NotTest, Comparison, ComparisonTail, ComparisonMore, ComparisonSign, IsTail, OrExpr, OrExprTail, XorExpr, XorExprTail, AndExpr, AndExprTail, ShiftExpr, ShiftTail, Sum, SumTail, Product, ProductTail, Factor, PowerExpr, PowerTail}
-use Rattle.py_syntax.proofs.Means.{Pushes, Lengthens, tuple_part, and_part, or_part, compare_part, IsSign, Kept}
-use Rattle.py_syntax.proofs.Together.{exprs_grow, exprs_alone, links_grow, links_alone}
+use Rattle.py_syntax.proofs.Means.{Pushes, Lengthens, Grows, tuple_part, compare_part, IsSign, Kept}
+use Rattle.py_syntax.proofs.Together.{exprs_together, exprs_grow, exprs_alone, links_grow, links_alone}
 use Rattle.py_syntax.proofs.TokenOf.{the_and_is, the_else_is, the_if_is, the_in_is, the_is_is, the_not_is, the_or_is, the_double_slash_is, the_double_star_is, the_left_shift_is, the_right_shift_is, the_less_equal_is, the_greater_equal_is, the_equal_equal_is, the_not_equal_is, the_plus_is, the_minus_is, the_star_is, the_percent_is, the_ampersand_is, the_bar_is, the_caret_is, the_tilde_is, the_less_is, the_greater_is, the_comma_is}
 use Rattle.py_syntax.proofs.KeptSteps.{first_is, looser}
 
@@ -103,6 +103,41 @@ kept_expression_tail = (
   ),
 )
 
+-- A chain of `or` or of `and`. A node of it has its place, its first two operands, and those that follow.
+chain_begun : (spelling : List ℕ) (n l : ℕ) (whole : Place × Expr × Expr → Exprs → Expr) (make : Action)
+    → ((k : Place × Expr × Expr) (es : Exprs) (front mid after rest : List Token) → IsExpr n k.1 front (word k.0 spelling ∷ mid) → IsExpr n k.2 mid after
+    → AreChained spelling n es after rest → IsExpr l (whole k es) front rest)
+    → ((p : Place) (a b : Expr) (u : Parts) → act make (PExpr b ∷ PToken (word p spelling) ∷ PExpr a ∷ u) ≡ PExpr (whole (p, a, b) no_exprs) ∷ u)
+    → (t : Token) (v u w z : Parts) (ts after mid last rest : List Token) → (p : Place) × (t ≡ word p spelling) → ts ≡ t ∷ after
+    → Pushes PExpr (IsExpr n) (PToken t ∷ v) after u mid → Grows (λ k es. PExpr (whole k es)) exprs_together (AreChained spelling n) (act make u) mid z last
+    → z ≡ w → last ≡ rest → Lengthens n l v ts w rest
+chain_begun spelling n l whole make spelt made t v u w z ts after mid last rest p first i tail q r a under is =
+    let stack : u ≡ PExpr i.0 ∷ PToken (word p.0 spelling) ∷ PExpr a ∷ under = cc in
+    let m = tail (p.0, a, i.0) no_exprs under (ap (act make) stack ∙ made p.0 a i.0 under) in (
+      whole (p.0, a, i.0) m.0,
+      sym q ∙ m.1,
+      λ front h. spelt (p.0, a, i.0) m.0 front after mid rest (subst (IsExpr n a front) (first_is first p.1 refl) h) i.2 (subst (AreChained spelling n m.0 mid) r m.2),
+    )
+
+-- and goes on with one more
+chain_grown : (spelling : List ℕ) (n : ℕ) (whole : Place × Expr × Expr → Exprs → Expr) (add : Action)
+    → ((p : Place) (k : Place × Expr × Expr) (es : Exprs) (b : Expr) (u : Parts)
+    → act add (PExpr b ∷ PToken (word p spelling) ∷ PExpr (whole k es) ∷ u) ≡ PExpr (whole k (with_expr es b)) ∷ u)
+    → (t : Token) (v u w z : Parts) (ts after mid last rest : List Token) → (p : Place) × (t ≡ word p spelling) → ts ≡ t ∷ after
+    → Pushes PExpr (IsExpr n) (PToken t ∷ v) after u mid → Grows (λ k es. PExpr (whole k es)) exprs_together (AreChained spelling n) (act add u) mid z last
+    → z ≡ w → last ≡ rest → Grows (λ k es. PExpr (whole k es)) exprs_together (AreChained spelling n) v ts w rest
+chain_grown spelling n whole add added t v u w z ts after mid last rest p first i tail q r k es under is =
+    let stack : u ≡ PExpr i.0 ∷ PToken (word p.0 spelling) ∷ PExpr (whole k es) ∷ under = cc in
+    let m = tail k (with_expr es i.0) under (ap (act add) stack ∙ added p.0 k es i.0 under) in (
+      more_exprs i.0 m.0,
+      sym q ∙ m.1 ∙ ap (λ (l : Exprs). PExpr (whole k l) ∷ under) (exprs_grow es i.0 m.0),
+      (p.0, after, mid, first_is first p.1 refl, i.2, subst (AreChained spelling n m.0 mid) r m.2),
+    )
+
+chain_ended : (spelling : List ℕ) (n : ℕ) (whole : Place × Expr × Expr → Exprs → Expr) (v w : Parts) (ts rest : List Token) → v ≡ w → ts ≡ rest
+    → Grows (λ k es. PExpr (whole k es)) exprs_together (AreChained spelling n) v ts w rest
+chain_ended spelling n whole v w ts rest p q k es u is = (no_exprs, sym p ∙ is ∙ ap (λ (l : Exprs). PExpr (whole k l) ∷ u) (sym (exprs_alone es)), q)
+
 pub kept_or_test : Kept OrTest
 kept_or_test = (λ v ts w rest g c. from_tail 3 3 2 v c.0 w c.3.0 ts c.1 c.3.1 rest (omega arith) c.2 c.3.2 c.3.3.0 c.3.3.1, tt)
 
@@ -110,39 +145,20 @@ pub kept_or_tail : Kept OrTail
 kept_or_tail = (
   λ v ts w rest g c. ended 3 2 v w ts rest (omega arith) c.0 c.1,
   (
-    λ v ts w rest g c a u is.
-        let p = the_or_is c.0 c.3 in
-        let b = c.4.2 in
-        let stack : c.4.0 ≡ PExpr b.0 ∷ PToken (word p.0 (codes "or")) ∷ PExpr a ∷ u = cc in
-        let m = c.4.3.2 (p.0, a, b.0) no_exprs u (ap (act MakeOr) stack) in (
-          EOr p.0 a b.0 m.0,
-          sym c.4.3.3.0 ∙ m.1,
-          λ front h. (
-            omega arith,
-            c.1,
-            c.4.1,
-            subst (IsExpr 3 a front) (first_is c.2 p.1 refl) h,
-            b.2,
-            subst (AreChained (codes "or") 3 m.0 c.4.1) c.4.3.3.1 m.2,
-          ),
-        ),
+    λ v ts w rest g c.
+        chain_begun (codes "or") 3 2 (λ k es. EOr k.0 k.1 k.2 es) MakeOr (λ k es front mid after last h i j. (omega arith, mid, after, h, i, j)) (λ p a b u. refl)
+        c.0 v c.4.0 w c.4.3.0 ts c.1 c.4.1 c.4.3.1 rest (the_or_is c.0 c.3) c.2 c.4.2 c.4.3.2 c.4.3.3.0 c.4.3.3.1,
     tt,
   ),
 )
 
 pub kept_or_more : Kept OrMore
 kept_or_more = (
-  λ v ts w rest g c k es u is. (no_exprs, sym c.0 ∙ is ∙ ap (λ (l : Exprs). or_part k l ∷ u) (sym (exprs_alone es)), c.1),
+  λ v ts w rest g c. chain_ended (codes "or") 3 (λ k es. EOr k.0 k.1 k.2 es) v w ts rest c.0 c.1,
   (
-    λ v ts w rest g c k es u is.
-        let p = the_or_is c.0 c.3 in
-        let b = c.4.2 in
-        let stack : c.4.0 ≡ PExpr b.0 ∷ PToken (word p.0 (codes "or")) ∷ or_part k es ∷ u = cc in
-        let m = c.4.3.2 k (with_expr es b.0) u (ap (act AddOr) stack) in (
-          more_exprs b.0 m.0,
-          sym c.4.3.3.0 ∙ m.1 ∙ ap (λ (l : Exprs). or_part k l ∷ u) (exprs_grow es b.0 m.0),
-          (p.0, c.1, c.4.1, first_is c.2 p.1 refl, b.2, subst (AreChained (codes "or") 3 m.0 c.4.1) c.4.3.3.1 m.2),
-        ),
+    λ v ts w rest g c.
+        chain_grown (codes "or") 3 (λ k es. EOr k.0 k.1 k.2 es) AddOr (λ p k es b u. refl)
+        c.0 v c.4.0 w c.4.3.0 ts c.1 c.4.1 c.4.3.1 rest (the_or_is c.0 c.3) c.2 c.4.2 c.4.3.2 c.4.3.3.0 c.4.3.3.1,
     tt,
   ),
 )
@@ -154,39 +170,20 @@ pub kept_and_tail : Kept AndTail
 kept_and_tail = (
   λ v ts w rest g c. ended 4 3 v w ts rest (omega arith) c.0 c.1,
   (
-    λ v ts w rest g c a u is.
-        let p = the_and_is c.0 c.3 in
-        let b = c.4.2 in
-        let stack : c.4.0 ≡ PExpr b.0 ∷ PToken (word p.0 (codes "and")) ∷ PExpr a ∷ u = cc in
-        let m = c.4.3.2 (p.0, a, b.0) no_exprs u (ap (act MakeAnd) stack) in (
-          EAnd p.0 a b.0 m.0,
-          sym c.4.3.3.0 ∙ m.1,
-          λ front h. (
-            omega arith,
-            c.1,
-            c.4.1,
-            subst (IsExpr 4 a front) (first_is c.2 p.1 refl) h,
-            b.2,
-            subst (AreChained (codes "and") 4 m.0 c.4.1) c.4.3.3.1 m.2,
-          ),
-        ),
+    λ v ts w rest g c.
+        chain_begun (codes "and") 4 3 (λ k es. EAnd k.0 k.1 k.2 es) MakeAnd (λ k es front mid after last h i j. (omega arith, mid, after, h, i, j)) (λ p a b u. refl)
+        c.0 v c.4.0 w c.4.3.0 ts c.1 c.4.1 c.4.3.1 rest (the_and_is c.0 c.3) c.2 c.4.2 c.4.3.2 c.4.3.3.0 c.4.3.3.1,
     tt,
   ),
 )
 
 pub kept_and_more : Kept AndMore
 kept_and_more = (
-  λ v ts w rest g c k es u is. (no_exprs, sym c.0 ∙ is ∙ ap (λ (l : Exprs). and_part k l ∷ u) (sym (exprs_alone es)), c.1),
+  λ v ts w rest g c. chain_ended (codes "and") 4 (λ k es. EAnd k.0 k.1 k.2 es) v w ts rest c.0 c.1,
   (
-    λ v ts w rest g c k es u is.
-        let p = the_and_is c.0 c.3 in
-        let b = c.4.2 in
-        let stack : c.4.0 ≡ PExpr b.0 ∷ PToken (word p.0 (codes "and")) ∷ and_part k es ∷ u = cc in
-        let m = c.4.3.2 k (with_expr es b.0) u (ap (act AddAnd) stack) in (
-          more_exprs b.0 m.0,
-          sym c.4.3.3.0 ∙ m.1 ∙ ap (λ (l : Exprs). and_part k l ∷ u) (exprs_grow es b.0 m.0),
-          (p.0, c.1, c.4.1, first_is c.2 p.1 refl, b.2, subst (AreChained (codes "and") 4 m.0 c.4.1) c.4.3.3.1 m.2),
-        ),
+    λ v ts w rest g c.
+        chain_grown (codes "and") 4 (λ k es. EAnd k.0 k.1 k.2 es) AddAnd (λ p k es b u. refl)
+        c.0 v c.4.0 w c.4.3.0 ts c.1 c.4.1 c.4.3.1 rest (the_and_is c.0 c.3) c.2 c.4.2 c.4.3.2 c.4.3.3.0 c.4.3.3.1,
     tt,
   ),
 )

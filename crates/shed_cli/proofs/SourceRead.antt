@@ -21,7 +21,7 @@ use Rattle.py_lexer.specs.PlainTokens.{plain_place, plain_tokens as text_tokens}
 use Rattle.py_lexer.specs.declared.token.Token.{Token as TokenRead}
 use Rattle.py_lexer.specs.declared.refusal.LexRefusal.{LexRefusal}
 use Rattle.py_lexer.specs.declared.refusal.LexRefusal.TheVariants as refusal
-use Rattle.py_recogniser.specs.PlainTokens.{plain_tokens}
+use Rattle.py_table.specs.PlainTokens.{plain_tokens}
 use Rattle.py_recogniser.specs.Refused.{IsFound, IsParseRefused, last_place as last_read}
 use Rattle.py_recogniser.specs.declared.refusal.Construct.{Construct}
 use Rattle.py_recogniser.specs.declared.refusal.Found.{Found}

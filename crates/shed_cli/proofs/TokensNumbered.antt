@@ -15,7 +15,7 @@ use Rattle.py_lexer.specs.PlainTokens.{plain_place, plain_kind as text_kind, pla
 use Rattle.py_lexer.specs.declared.token.TokenKind.{TokenKind}
 use Rattle.py_lexer.specs.declared.token.TokenKind.TheVariants as kind
 use Rattle.py_lexer.specs.declared.token.Token.{Token}
-use Rattle.py_recogniser.specs.PlainTokens.{is_ascii, plain_kind, plain_tokens}
+use Rattle.py_table.specs.PlainTokens.{is_ascii, plain_kind, plain_tokens}
 
 -- a text stands at its own place among texts of which no two are one
 place_of : (texts : List (List ℕ)) (i : ℕ) → AreDistinct texts → i < length texts → place_among texts (get_or texts i []) ≡ i

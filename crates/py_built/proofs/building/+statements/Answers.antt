@@ -1,6 +1,6 @@
 use Rattle.std.proofs.Common.{◌+◌, List, drop, ap, ◌∙◌}
 use Rattle.std.specs.Option.{option_map}
-use Rattle.py_parser.specs.PlainTrees as whole_trees
+use Rattle.py_ast.specs.PlainTrees as whole_trees
 use Rattle.py_meaning.specs.Built.{built_body}
 use Rattle.py_built.specs.declared.tree.Stmt.{Stmt}
 use Rattle.py_built.specs.Forms.{behind}

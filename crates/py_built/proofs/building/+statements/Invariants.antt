@@ -1,6 +1,6 @@
 use Rattle.std.proofs.Common.{◌≡◌, drop}
 use Rattle.std.specs.Option.{option_map}
-use Rattle.py_parser.specs.PlainTrees.{plain_body}
+use Rattle.py_ast.specs.PlainTrees.{plain_body}
 use Rattle.py_meaning.specs.Built.{built_body}
 use Rattle.py_built.specs.Forms.{behind}
 use Rattle.py_built.proofs.building.+statements.Given as goal

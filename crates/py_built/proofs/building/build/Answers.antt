@@ -1,8 +1,8 @@
 use Rattle.std.proofs.Common.{◌≡◌, [], List, Some, sym, ap, ◌∙◌}
 use Rattle.std.specs.Option.{option_map}
 use Rattle.py_lexer.specs.PlainTokens.{plain_place}
-use Rattle.py_parser.specs.declared.tree.Stmt.{Stmt}
-use Rattle.py_parser.specs.PlainTrees as whole_trees
+use Rattle.py_ast.specs.declared.tree.Stmt.{Stmt}
+use Rattle.py_ast.specs.PlainTrees as whole_trees
 use Rattle.py_meaning.specs.Built.{built_body, unbuilt, first_place}
 use Rattle.py_built.specs.PlainTrees.{plain_body}
 use Rattle.py_built.proofs.BodiesBuilt.{built_reads}

@@ -1,5 +1,5 @@
 use Rattle.py_lexer.specs.PlainTokens.{plain_place}
-use Rattle.py_parser.specs.PlainExprs.{plain_expr, plain_exprs, plain_keywords}
+use Rattle.py_ast.specs.PlainExprs.{plain_expr, plain_exprs, plain_keywords}
 use Rattle.py_built.proofs.Calls.{one_argument, no_keyword}
 use Rattle.py_built.proofs.forms.printed_by.Goals as goal
 

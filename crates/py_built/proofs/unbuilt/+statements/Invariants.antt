@@ -1,7 +1,7 @@
 use Rattle.std.proofs.Common.{◌≡◌, drop}
 use Rattle.std.specs.Option.{option_map}
 use Rattle.py_lexer.specs.PlainTokens.{plain_place}
-use Rattle.py_parser.specs.PlainTrees.{plain_body}
+use Rattle.py_ast.specs.PlainTrees.{plain_body}
 use Rattle.py_meaning.specs.Built.{first_place, unbuilt_block}
 use Rattle.py_built.specs.First.{earliest}
 use Rattle.py_built.specs.Names.{texts}

@@ -1,8 +1,8 @@
 use Rattle.std.proofs.Common.{sym, ap, ◌∙◌}
 use Rattle.std.specs.Option.{option_copied}
 use Rattle.py_lexer.specs.PlainTokens.{plain_place}
-use Rattle.py_parser.specs.PlainExprs.{plain_expr}
-use Rattle.py_parser.specs.PlainTrees.{plain_target_lists, plain_stmt, plain_stmt-Assign}
+use Rattle.py_ast.specs.PlainExprs.{plain_expr}
+use Rattle.py_ast.specs.PlainTrees.{plain_target_lists, plain_stmt, plain_stmt-Assign}
 use Rattle.py_meaning.specs.Built.{assigned}
 use Rattle.py_built.specs.Names.{texts}
 use Rattle.py_built.proofs.UnbuiltAlike.{bound_alike}

@@ -1,8 +1,8 @@
 use Rattle.std.proofs.Common.{Some, sym, ap, ap₂, ◌∙◌}
 use Rattle.std.specs.Option.{option_map}
 use Rattle.py_lexer.specs.PlainTokens.{plain_place}
-use Rattle.py_recogniser.specs.PlainOperators.{plain_comparison}
-use Rattle.py_parser.specs.PlainExprs.{plain_expr}
+use Rattle.py_ast.specs.PlainOperators.{plain_comparison}
+use Rattle.py_ast.specs.PlainExprs.{plain_expr}
 use Rattle.py_built.specs.PlainTrees.{plain_comparison as plain_small}
 use Rattle.py_built.specs.First.{earliest}
 use Rattle.py_built.specs.Names.{texts}

@@ -1,4 +1,4 @@
-use Rattle.py_recogniser.specs.PlainTokens.{plain_tokens}
+use Rattle.py_table.specs.PlainTokens.{plain_tokens}
 use Rattle.py_parser.proofs.PartsStand.{starts_empty, built_module}
 use Rattle.py_parser.proofs.building.build.Goals as goal
 

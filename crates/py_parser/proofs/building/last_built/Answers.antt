@@ -1,4 +1,4 @@
-use Rattle.py_parser.proofs.Stacks.{nothing_last}
+use Rattle.parser_parts.proofs.Stacks.{nothing_last}
 use Rattle.py_parser.proofs.building.last_built.Goals as goal
 
 pub returns-in-None : goal.returns-in-None

@@ -1,4 +1,4 @@
-use Rattle.py_recogniser.specs.PlainTokens.{plain_tokens}
+use Rattle.py_table.specs.PlainTokens.{plain_tokens}
 use Rattle.py_recogniser.proofs.MeasuresStand.{starts_empty, measured_height, rest_of_stuck}
 use Rattle.py_recogniser.proofs.measuring.measure.Goals as goal
 

@@ -7,9 +7,9 @@ use Rattle.py_syntax.specs.Heights.{IsShallow}
 use Rattle.py_meaning.specs.Rules.{are_reads_sure}
 use Rattle.py_meaning.specs.Built.{built_body, unbuilt, first_place}
 use Rattle.py_lexer.specs.PlainTokens.{plain_place, plain_tokens as text_tokens}
-use Rattle.py_recogniser.specs.PlainTokens.{plain_tokens}
+use Rattle.py_table.specs.PlainTokens.{plain_tokens}
 use Rattle.py_recogniser.specs.Refused.{IsParseRefused}
-use Rattle.py_parser.specs.PlainTrees.{plain as plain_whole}
+use Rattle.py_ast.specs.PlainTrees.{plain as plain_whole}
 use Rattle.py_built.specs.PlainTrees.{plain}
 use Rattle.shed_cli.proofs.SourceRead.{fault_of_refusal, source_read, fault_unexpected, fault_too_deep, fault_unbuilt}
 use Rattle.shed_cli.proofs.source.read_source.Goals as goal

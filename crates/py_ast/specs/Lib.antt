@@ -1,0 +1,3 @@
+pub mod PlainOperators
+pub mod PlainExprs
+pub mod PlainTrees

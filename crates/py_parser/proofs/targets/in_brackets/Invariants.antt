@@ -1,8 +1,0 @@
-use Rattle.std.proofs.Common.{◌≡◌, drop, map, reverse, Some}
-use Rattle.py_parser.specs.PlainTrees.{plain_targets}
-use Rattle.py_parser.specs.PlainTargets.{all_around}
-use Rattle.py_parser.proofs.targets.in_brackets.Given as goal
-
--- what is left around what has been put in brackets
-abbrev pub invariant-loop-turn : goal.invariant-loop-turn
-invariant-loop-turn l = all_around l.left.items (Some (plain_targets l.inner)) ≡ all_around l.fn.brackets.items (Some (plain_targets l.fn.targets))

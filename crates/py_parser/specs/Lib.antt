@@ -1,4 +1,0 @@
-pub mod PlainExprs
-pub mod PlainTrees
-pub mod PlainParts
-pub mod PlainTargets

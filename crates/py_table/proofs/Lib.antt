@@ -1,0 +1,4 @@
+mod NameTexts
+mod Picked
+pub mod SymbolStacks
+pub mod Turns

@@ -1,0 +1,5 @@
+pub mod PlainSymbols
+pub mod PlainTokens
+pub mod Sights
+pub mod RowNumbers
+pub mod Steps
