@@ -1,3 +1,5 @@
 pub mod Fits
 pub mod ShallowModules
 pub mod DepthVectors
+pub mod OutlinesCount
+pub mod WalkCounts

@@ -1,2 +1,5 @@
 pub mod Depths
 pub mod TooDeep
+pub mod Outlines
+pub mod TreeOutlines
+pub mod Walk

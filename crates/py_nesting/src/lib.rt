@@ -1,12 +1,25 @@
 //! How deep a module is nested, place by place.
 //!
-//! `specs/Depths.antt` counts the nodes that stand above one, and `specs/TooDeep.antt` says where there are too many. The
-//! function below has no body: it carries a law.
+//! `specs/Depths.antt` counts the nodes that stand above one, and `specs/TooDeep.antt` says where there are too many. `specs/Outlines.antt` puts the
+//! nodes together step by step, and `specs/Walk.antt` finds what stands above each by going back. The functions below have no
+//! body: they carry laws.
 #![tactic(auto)]
 
 ghost use Rattle.py_nesting.specs.TooDeep.{ShallowLaw};
+ghost use Rattle.py_nesting.specs.TreeOutlines.{OutlineLaw};
+ghost use Rattle.py_nesting.specs.Walk.{WalkLaw};
 
 /// A module is shallow exactly where no node of it lies too deep.
 pub fn shallow_where_no_place_is_too_deep()
     ensures law { ShallowLaw }
+{}
+
+/// Going back through the steps that put outlines together meets each of their nodes, with as many above it as stand there.
+pub fn walk_meets_the_nodes()
+    ensures law { WalkLaw }
+{}
+
+/// The outline of a module has its depths.
+pub fn outline_has_the_depths()
+    ensures law { OutlineLaw }
 {}
