@@ -2,4 +2,5 @@ pub mod Fits
 pub mod ShallowModules
 pub mod DepthVectors
 pub mod OutlinesCount
+pub mod EffectsKept
 pub mod WalkCounts

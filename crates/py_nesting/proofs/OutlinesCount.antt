@@ -4,7 +4,7 @@ use Rattle.py_tokens.specs.Token.{Place}
 use Rattle.py_syntax.specs.Tree.{NameAt, LoopTarget, LoopName, LoopNames, LoopParenthesis, Expr, EName, ENumber, EText, ETrue, EFalse, ENone, EParenthesis, EEmptyTuple, ETuple, EList, EListComprehension, EDict, ESet, EAttribute, ECall, ESubscript, ESlice, EUnary, EBinary, ECompare, ENot, EAnd, EOr, EConditional, Exprs, no_exprs, more_exprs, MaybeExpr, no_expr, an_expr, Pairs, no_pairs, more_pairs, Links, no_links, more_links, Keywords, no_keywords, more_keywords, Loops, no_loops, more_loops, Target, TargetName, TargetAttribute, TargetSubscript, Targets, OneTarget, SomeTargets, ParenthesisTargets, BracketTargets, Parameter, Stmt, SExpr, SAssign, SAugmented, SPass, SBreak, SContinue, SReturn, SRaise, SYield, SGlobal, SAssert, SDelete, SIf, SWhile, SFor, STry, SDef, SClass, SImport, SFromImport, Body, no_stmts, more_stmts, Handlers, no_handlers, more_handlers}
 use Rattle.py_nesting.specs.Depths.{here, under, names_depth, loop_target_depth, expr_depth, exprs_depth, maybe_depth, pairs_depth, links_depth, keywords_depth, loops_depth, target_depth, target_list_depth, targets_depth, assigned_depth, parameters_depth, stmt_depth, body_depth, handlers_depth}
 use Rattle.py_nesting.specs.Outlines.{Outlines, none_below, outline_depth, outlines_depth}
-use Rattle.py_nesting.specs.TreeOutlines.{leaf, one_below, two_below, names_outlines, loop_target_outline, expr_outline, exprs_outlines, maybe_outlines, pairs_outlines, links_outlines, keywords_outlines, loops_outlines, target_outline, target_list_outlines, targets_outline, assigned_outlines, parameters_outlines, stmt_outline, stmts_outlines, body_outline, handlers_outlines, OutlineLaw}
+use Rattle.py_nesting.specs.TreeOutlines.{leaf, two_below, names_outlines, loop_target_outline, expr_outline, exprs_outlines, maybe_outlines, pairs_outlines, links_outlines, keywords_outlines, loops_outlines, target_outline, target_list_outlines, targets_outline, assigned_outlines, parameters_outlines, stmt_outline, stmts_outlines, body_outline, definition_outlines, handlers_outlines, OutlineLaw}
 
 same_leaf : (at : Place → Bool) (p : Place) → outline_depth at (leaf p) ≡ here (at p)
 same_leaf at p = omega arith
@@ -90,9 +90,9 @@ same_targets at (SomeTargets p targets) = let first = same_target_list at target
 same_targets at (ParenthesisTargets p t) = same_node at p _ _ (let first = same_targets at t in omega arith)
 same_targets at (BracketTargets p t) = same_node at p _ _ (let first = same_targets at t in omega arith)
 
-same_assigned : (at : Place → Bool) (ts : List Targets) (rest : Outlines) → outlines_depth at (assigned_outlines ts rest) ≡ max (assigned_depth at ts) (outlines_depth at rest)
-same_assigned at [] rest = omega arith
-same_assigned at (t ∷ targets) rest = let first = same_targets at t in let second = same_assigned at targets rest in omega arith
+same_assigned : (at : Place → Bool) (x : List Targets) → outlines_depth at (assigned_outlines x) ≡ assigned_depth at x
+same_assigned at [] = omega arith
+same_assigned at (t ∷ targets) = let first = same_targets at t in let second = same_assigned at targets in omega arith
 
 same_parameters : (at : Place → Bool) (xs : List Parameter) (rest : Outlines) → outlines_depth at (parameters_outlines xs rest) ≡ max (parameters_depth at xs) (outlines_depth at rest)
 same_parameters at [] rest = omega arith
@@ -101,7 +101,7 @@ same_parameters at (x ∷ parameters) rest = let first = same_maybe at x.default
 mutual
   same_stmt : (at : Place → Bool) (x : Stmt) → outline_depth at (stmt_outline x) ≡ stmt_depth at x
   same_stmt at (SExpr p e) = same_node at p _ _ (let first = same_expr at e in omega arith)
-  same_stmt at (SAssign p targets e) = same_node at p _ _ (let first = same_assigned at targets (one_below (expr_outline e)) in let second = same_expr at e in omega arith)
+  same_stmt at (SAssign p targets e) = same_node at p _ _ (let first = same_assigned at targets in let second = same_expr at e in omega arith)
   same_stmt at (SAugmented p o t e) = same_node at p _ _ (let first = same_target at t in let second = same_expr at e in omega arith)
   same_stmt at (SPass p) = omega arith
   same_stmt at (SBreak p) = omega arith
@@ -116,8 +116,8 @@ mutual
   same_stmt at (SWhile p e body) = same_node at p _ _ (let first = same_expr at e in let second = same_body at body in omega arith)
   same_stmt at (SFor p t e body) = same_node at p _ _ (let first = same_loop_target at t in let second = same_expr at e in let third = same_body at body in omega arith)
   same_stmt at (STry p body handlers) = same_node at p _ _ (let first = same_body at body in let second = same_handlers at handlers in omega arith)
-  same_stmt at (SDef p x parameters body) = same_node at p _ _ (let first = same_parameters at parameters (one_below (body_outline body)) in let second = same_body at body in omega arith)
-  same_stmt at (SClass p x base body) = same_node at p _ _ (let first = same_body at body in omega arith)
+  same_stmt at (SDef p x parameters body) = same_node at p _ _ (let first = same_parameters at parameters (definition_outlines body) in let second = same_definition at body in omega arith)
+  same_stmt at (SClass p x base body) = same_node at p _ _ (let first = same_definition at body in omega arith)
   same_stmt at (SImport p modules) = omega arith
   same_stmt at (SFromImport p m names) = omega arith
 
@@ -128,6 +128,10 @@ mutual
   same_stmts : (at : Place → Bool) (x : Body) → outlines_depth at (stmts_outlines x) ≡ body_depth at x
   same_stmts at no_stmts = omega arith
   same_stmts at (more_stmts s body) = let a = same_stmt at s in let b = same_stmts at body in omega arith
+
+  same_definition : (at : Place → Bool) (x : Body) → outlines_depth at (definition_outlines x) ≡ body_depth at x
+  same_definition at no_stmts = omega arith
+  same_definition at (more_stmts s body) = let a = same_stmt at s in let b = same_stmts at body in omega arith
 
   same_handlers : (at : Place → Bool) (x : Handlers) → outlines_depth at (handlers_outlines x) ≡ handlers_depth at x
   same_handlers at no_handlers = omega arith

@@ -2,8 +2,8 @@
 use Rattle.std.proofs.Common.{◌≡◌, ℕ, zero, suc, ◌≤◌, max, Bool, true, false, List, [], ◌∷◌, Option, Some, None, inl, inr, arith, refl, sym, ap, ◌∙◌, subst, if◌then◌else◌, ◌⊎◌}
 use Rattle.py_tokens.specs.Token.{Place}
 use Rattle.py_nesting.specs.Depths.{here, up, under}
-use Rattle.py_nesting.specs.Outlines.{Label, Plain, Bracket, Tuple, Outline, Node, Group, Outlines, none_below, more_below, outline_depth, outlines_depth, as_targets, all_as_targets, with_last, Event, Over, Gather, Join, JoinGroup, Move, Assign, same_label, Taken, take_below, put, step, after, built}
-use Rattle.py_nesting.specs.Walk.{Demand, Whole, Inside, Assigned, InsideAssigned, raise, inside, demanded, depth_of, below, within, moved, unassigned, times, back, comes, Met, met, brought, walk, met_depth, WalkLaw}
+use Rattle.py_nesting.specs.Outlines.{Label, Plain, Bracket, Tuple, Outline, Node, Group, Outlines, none_below, more_below, outline_depth, outlines_depth, as_targets, all_as_targets, with_last, Event, Over, Gather, Join, JoinGroup, Loosen, Assign, Forget, same_label, Taken, take_below, put, step, after, built}
+use Rattle.py_nesting.specs.Walk.{Demand, Nothing, Whole, Inside, Assigned, InsideAssigned, raise, inside, demanded, depth_of, below, within, loosened, unassigned, times, back, comes, Met, met, brought, walk, met_depth, WalkLaw}
 use Rattle.py_nesting.proofs.Fits.{low_or_high}
 
 raise_more : (d a b : ℕ) → a ≤ b → raise d a ≤ raise d b
@@ -34,6 +34,10 @@ abbrev asked : (Place → Bool) → Demand → Outlines → ℕ
 asked at d none_below = 0
 asked at d (more_below o os) = max (demanded at d o) (asked at d os)
 
+nothing_is_asked : (at : Place → Bool) (os : Outlines) → asked at Nothing os ≡ 0
+nothing_is_asked at none_below = refl
+nothing_is_asked at (more_below o os) = let e = nothing_is_asked at os in omega arith
+
 whole_asked : (at : Place → Bool) (d : ℕ) (os : Outlines) → asked at (Whole d) os ≡ raise d (outlines_depth at os)
 whole_asked at d none_below = refl
 whole_asked at d (more_below o os) = let e = whole_asked at d os in let f = raise_max d (outline_depth at o) (outlines_depth at os) in omega arith
@@ -50,6 +54,7 @@ last_asked at d (more_below first os) o = let e = last_asked at d os o in omega 
 
 node_asked : (at : Place → Bool) (l : Label) (p : Place) (os : Outlines) (d : Demand)
     → demanded at d (Node l p os) ≡ max (met_depth at (met p (comes l d) [])) (asked at (below l d) os)
+node_asked at l p os Nothing = let f = nothing_is_asked at os in omega arith
 node_asked at l p os (Whole d) = let e = raise_under d (at p) (outlines_depth at os) in let f = whole_asked at (suc d) os in omega arith
 node_asked at l p os (Inside d) = let f = whole_asked at d os in omega arith
 node_asked at Plain p os (Assigned d) = let e = raise_under d (at p) (outlines_depth at os) in let f = whole_asked at (suc d) os in omega arith
@@ -61,17 +66,18 @@ node_asked at Bracket p os (InsideAssigned d) = let f = assigned_asked at d os i
 node_asked at Tuple p os (InsideAssigned d) = let f = whole_asked at d os in omega arith
 
 group_asked : (at : Place → Bool) (os : Outlines) (d : Demand) → demanded at d (Group os) ≡ asked at (within d) os
+group_asked at os Nothing = sym (nothing_is_asked at os)
 group_asked at os (Whole d) = sym (whole_asked at d os)
 group_asked at os (Inside d) = sym (whole_asked at d os)
 group_asked at os (Assigned d) = sym (whole_asked at d os)
 group_asked at os (InsideAssigned d) = sym (whole_asked at d os)
 
-moved_asked : (at : Place → Bool) (k : Label) (p q : Place) (os : Outlines) (d : Demand)
-    → demanded at d (Node Plain p os) ≡ max (met_depth at (met p (comes Plain d) [])) (demanded at (moved d) (Node k q os))
-moved_asked at k p q os (Whole d) = let e = raise_under d (at p) (outlines_depth at os) in omega arith
-moved_asked at k p q os (Inside d) = omega arith
-moved_asked at k p q os (Assigned d) = let e = raise_under d (at p) (outlines_depth at os) in omega arith
-moved_asked at k p q os (InsideAssigned d) = omega arith
+loosened_asked : (at : Place → Bool) (k : Label) (q : Place) (os : Outlines) (d : Demand) → demanded at d (Group os) ≡ demanded at (loosened d) (Node k q os)
+loosened_asked at k q os Nothing = refl
+loosened_asked at k q os (Whole d) = refl
+loosened_asked at k q os (Inside d) = refl
+loosened_asked at k q os (Assigned d) = refl
+loosened_asked at k q os (InsideAssigned d) = refl
 
 -- targets are targets
 mutual
@@ -87,6 +93,7 @@ mutual
       ap (λ (x : Outline). more_below x (all_as_targets (all_as_targets os))) (targets_again o) ∙ ap (more_below (as_targets o)) (all_targets_again os)
 
 targets_asked : (at : Place → Bool) (o : Outline) (d : Demand) → demanded at d (as_targets o) ≡ demanded at (unassigned d) o
+targets_asked at o Nothing = refl
 targets_asked at o (Whole d) = refl
 targets_asked at o (Inside d) = refl
 targets_asked at o (Assigned d) = ap (λ (x : Outline). raise d (outline_depth at x)) (targets_again o)
@@ -109,8 +116,9 @@ nothing_brought at (Over l p n) = refl
 nothing_brought at (Gather n) = refl
 nothing_brought at (Join l) = refl
 nothing_brought at JoinGroup = refl
-nothing_brought at (Move p) = refl
+nothing_brought at Loosen = refl
 nothing_brought at Assign = refl
+nothing_brought at Forget = refl
 
 put_asked : (at : Place → Bool) (f : Outlines → Outline) (n : ℕ) (os others : List Outline) (d w : Demand) (ds : List Demand) (k : ℕ)
     → ((below : Outlines) → demanded at d (f below) ≡ max k (asked at w below)) → put f (take_below n os none_below) ≡ Some others
@@ -170,17 +178,22 @@ step_asked at JoinGroup (o ∷ Group os ∷ rest) others d ds e =
     let b = group_asked at os d in
     let c = last_asked at (within d) os o in
     subst (λ (x : List Outline). depth_of at x (d ∷ ds) ≡ max 0 (depth_of at (o ∷ Group os ∷ rest) (within d ∷ d ∷ ds))) is (omega arith)
-step_asked at (Move p) [] others d ds e = absurd (cc)
-step_asked at (Move p) (Group os ∷ rest) others d ds e = absurd (cc)
-step_asked at (Move p) (Node k q os ∷ rest) others d ds e =
-    let is : Node Plain p os ∷ rest ≡ others = cc in
-    let a = moved_asked at k p q os d in
-    subst (λ (x : List Outline). depth_of at x (d ∷ ds) ≡ max (met_depth at (met p (comes Plain d) [])) (depth_of at (Node k q os ∷ rest) (moved d ∷ ds))) is (omega arith)
+step_asked at Loosen [] others d ds e = absurd (cc)
+step_asked at Loosen (Group os ∷ rest) others d ds e = absurd (cc)
+step_asked at Loosen (Node k q os ∷ rest) others d ds e =
+    let is : Group os ∷ rest ≡ others = cc in
+    let a = loosened_asked at k q os d in
+    subst (λ (x : List Outline). depth_of at x (d ∷ ds) ≡ max 0 (depth_of at (Node k q os ∷ rest) (loosened d ∷ ds))) is (omega arith)
 step_asked at Assign [] others d ds e = absurd (cc)
 step_asked at Assign (o ∷ rest) others d ds e =
     let is : as_targets o ∷ rest ≡ others = cc in
     let a = targets_asked at o d in
     subst (λ (x : List Outline). depth_of at x (d ∷ ds) ≡ max 0 (depth_of at (o ∷ rest) (unassigned d ∷ ds))) is (omega arith)
+step_asked at Forget [] others d ds e = absurd (cc)
+step_asked at Forget (o ∷ []) others d ds e = absurd (cc)
+step_asked at Forget (o ∷ n ∷ rest) others d ds e =
+    let is : o ∷ rest ≡ others = cc in
+    subst (λ (x : List Outline). depth_of at x (d ∷ ds) ≡ max 0 (depth_of at (o ∷ n ∷ rest) (d ∷ Nothing ∷ ds))) is (omega arith)
 
 met_more : (at : Place → Bool) (p : Place) (d : Option ℕ) (nodes : List Met) → met_depth at (met p d nodes) ≡ max (met_depth at (met p d [])) (met_depth at nodes)
 met_more at p None nodes = omega arith
@@ -189,12 +202,12 @@ met_more at p (Some d) nodes = omega arith
 brought_more : (at : Place → Bool) (e : Event) (ds : List Demand) (nodes : List Met) → met_depth at (brought e ds nodes) ≡ max (met_depth at (brought e ds [])) (met_depth at nodes)
 brought_more at (Over l p n) [] nodes = omega arith
 brought_more at (Over l p n) (d ∷ ds) nodes = met_more at p (comes l d) nodes
-brought_more at (Move p) [] nodes = omega arith
-brought_more at (Move p) (d ∷ ds) nodes = met_more at p (comes Plain d) nodes
+brought_more at Loosen ds nodes = omega arith
 brought_more at (Gather n) ds nodes = omega arith
 brought_more at (Join l) ds nodes = omega arith
 brought_more at JoinGroup ds nodes = omega arith
 brought_more at Assign ds nodes = omega arith
+brought_more at Forget ds nodes = omega arith
 
 -- one event more
 one_more : (at : Place → Bool) (e : Event) (os others : List Outline) (ds : List Demand) (nodes : List Met) → step e os ≡ Some others

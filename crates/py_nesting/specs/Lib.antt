@@ -2,4 +2,6 @@ pub mod Depths
 pub mod TooDeep
 pub mod Outlines
 pub mod TreeOutlines
+pub mod Shapes
+pub mod Effects
 pub mod Walk

@@ -53,10 +53,12 @@ pub data Event : Type 0 where
   -- the top one goes below the next, a node with this label, as its last
   Join : (label : Label) → Event
   JoinGroup : Event
-  -- the top node is a plain one at another place
-  Move : (place : Place) → Event
+  -- the top node is none any more
+  Loosen : Event
   -- the top one turns out to be targets
   Assign : Event
+  -- the one below the top is let go
+  Forget : Event
 
 abbrev pub same_label : Label → Label → Bool
 same_label Plain Plain = true
@@ -83,8 +85,9 @@ step (Over l p n) os = put (Node l p) (take_below n os none_below)
 step (Gather n) os = put Group (take_below n os none_below)
 step (Join l) (o ∷ Node k p below ∷ os) = if same_label l k then Some (Node k p (with_last below o) ∷ os) else None
 step JoinGroup (o ∷ Group below ∷ os) = Some (Group (with_last below o) ∷ os)
-step (Move p) (Node k q below ∷ os) = Some (Node Plain p below ∷ os)
+step Loosen (Node k q below ∷ os) = Some (Group below ∷ os)
 step Assign (o ∷ os) = Some (as_targets o ∷ os)
+step Forget (o ∷ n ∷ os) = Some (o ∷ os)
 step e os = None
 
 abbrev pub after : Event → Option (List Outline) → Option (List Outline)

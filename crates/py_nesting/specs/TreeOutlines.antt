@@ -24,7 +24,7 @@ loop_target_outline (LoopName x) = leaf x.place
 loop_target_outline (LoopNames p xs) = Group (names_outlines p xs)
 loop_target_outline (LoopParenthesis p t) = Node Plain p (one_below (loop_target_outline t))
 
--- Each takes what stands behind it too. A comma in a list makes its items targets, and not the list's one item.
+-- A list takes what stands behind it too. The items of a list with commas are a group, so that they are targets where its one item would be.
 abbrev mutual
   pub expr_outline : Expr → Outline
   expr_outline (EName p x) = leaf p
@@ -37,10 +37,10 @@ abbrev mutual
   expr_outline (EEmptyTuple p) = leaf p
   expr_outline (ETuple p es) = Node Tuple p (exprs_outlines es none_below)
   expr_outline (EList p None es) = Node Bracket p (exprs_outlines es none_below)
-  expr_outline (EList p (Some c) es) = Node Plain p (exprs_outlines es none_below)
+  expr_outline (EList p (Some c) es) = Node Bracket p (one_below (Group (exprs_outlines es none_below)))
   expr_outline (EListComprehension p e loops) = Node Plain p (more_below (expr_outline e) (loops_outlines loops))
   expr_outline (EDict p pairs) = Node Plain p (pairs_outlines pairs)
-  expr_outline (ESet p es) = Node Plain p (exprs_outlines es none_below)
+  expr_outline (ESet p es) = Node Plain p (one_below (Group (exprs_outlines es none_below)))
   expr_outline (EAttribute p e x) = Node Plain p (one_below (expr_outline e))
   expr_outline (ECall p e es ks) = Node Plain p (more_below (expr_outline e) (exprs_outlines es (keywords_outlines ks)))
   expr_outline (ESubscript p e i) = Node Plain p (two_below (expr_outline e) (expr_outline i))
@@ -63,7 +63,7 @@ abbrev mutual
 
   pub pairs_outlines : Pairs → Outlines
   pairs_outlines no_pairs = none_below
-  pairs_outlines (more_pairs k e pairs) = more_below (expr_outline k) (more_below (expr_outline e) (pairs_outlines pairs))
+  pairs_outlines (more_pairs k e pairs) = more_below (Group (two_below (expr_outline k) (expr_outline e))) (pairs_outlines pairs)
 
   pub links_outlines : Links → Outlines
   links_outlines no_links = none_below
@@ -93,9 +93,9 @@ targets_outline (SomeTargets p targets) = Group (target_list_outlines targets)
 targets_outline (ParenthesisTargets p t) = Node Bracket p (one_below (targets_outline t))
 targets_outline (BracketTargets p t) = Node Bracket p (one_below (targets_outline t))
 
-abbrev pub assigned_outlines : List Targets → Outlines → Outlines
-assigned_outlines [] rest = rest
-assigned_outlines (t ∷ targets) rest = more_below (targets_outline t) (assigned_outlines targets rest)
+abbrev pub assigned_outlines : List Targets → Outlines
+assigned_outlines [] = none_below
+assigned_outlines (t ∷ targets) = more_below (targets_outline t) (assigned_outlines targets)
 
 abbrev pub parameters_outlines : List Parameter → Outlines → Outlines
 parameters_outlines [] rest = rest
@@ -104,7 +104,7 @@ parameters_outlines (x ∷ parameters) rest = maybe_outlines x.default (paramete
 abbrev mutual
   pub stmt_outline : Stmt → Outline
   stmt_outline (SExpr p e) = Node Plain p (one_below (expr_outline e))
-  stmt_outline (SAssign p targets e) = Node Plain p (assigned_outlines targets (one_below (expr_outline e)))
+  stmt_outline (SAssign p targets e) = Node Plain p (two_below (Group (assigned_outlines targets)) (expr_outline e))
   stmt_outline (SAugmented p o t e) = Node Plain p (two_below (target_outline t) (expr_outline e))
   stmt_outline (SPass p) = leaf p
   stmt_outline (SBreak p) = leaf p
@@ -119,8 +119,8 @@ abbrev mutual
   stmt_outline (SWhile p e body) = Node Plain p (two_below (expr_outline e) (body_outline body))
   stmt_outline (SFor p t e body) = Node Plain p (more_below (loop_target_outline t) (two_below (expr_outline e) (body_outline body)))
   stmt_outline (STry p body handlers) = Node Plain p (more_below (body_outline body) (handlers_outlines handlers))
-  stmt_outline (SDef p x parameters body) = Node Plain p (parameters_outlines parameters (one_below (body_outline body)))
-  stmt_outline (SClass p x base body) = Node Plain p (one_below (body_outline body))
+  stmt_outline (SDef p x parameters body) = Node Plain p (parameters_outlines parameters (definition_outlines body))
+  stmt_outline (SClass p x base body) = Node Plain p (definition_outlines body)
   stmt_outline (SImport p modules) = leaf p
   stmt_outline (SFromImport p m names) = leaf p
 
@@ -131,6 +131,11 @@ abbrev mutual
   pub body_outline : Body → Outline
   body_outline no_stmts = Group none_below
   body_outline (more_stmts s body) = Group (more_below (stmt_outline s) (stmts_outlines body))
+
+  -- a definition without a body so far has nothing in its place
+  pub definition_outlines : Body → Outlines
+  definition_outlines no_stmts = none_below
+  definition_outlines (more_stmts s body) = one_below (Group (more_below (stmt_outline s) (stmts_outlines body)))
 
   pub handlers_outlines : Handlers → Outlines
   handlers_outlines no_handlers = none_below

@@ -2,10 +2,11 @@
 use Rattle.std.specs.Prelude.{◌≡◌, ℕ, zero, suc, ◌+◌, max, Bool, List, [], ◌∷◌, Option, Some, None}
 use Rattle.py_tokens.specs.Token.{Place}
 use Rattle.py_nesting.specs.Depths.{here}
-use Rattle.py_nesting.specs.Outlines.{Label, Plain, Bracket, Tuple, Outline, Node, Group, Outlines, outline_depth, outlines_depth, as_targets, Event, Over, Gather, Join, JoinGroup, Move, Assign, built}
+use Rattle.py_nesting.specs.Outlines.{Label, Plain, Bracket, Tuple, Outline, Node, Group, Outlines, outline_depth, outlines_depth, as_targets, Event, Over, Gather, Join, JoinGroup, Loosen, Assign, Forget, built}
 
 -- what is asked of an outline: so many nodes stand above it
 pub data Demand : Type 0 where
+  Nothing : Demand
   Whole : (above : ℕ) → Demand
   -- its topmost node is not asked for, and so many stand above what is below
   Inside : (above : ℕ) → Demand
@@ -23,6 +24,7 @@ inside (Node l p os) = os
 inside (Group os) = os
 
 abbrev pub demanded : (Place → Bool) → Demand → Outline → ℕ
+demanded at Nothing o = 0
 demanded at (Whole d) o = raise d (outline_depth at o)
 demanded at (Inside d) o = raise d (outlines_depth at (inside o))
 demanded at (Assigned d) o = raise d (outline_depth at (as_targets o))
@@ -36,6 +38,7 @@ depth_of at (o ∷ os) (d ∷ ds) = max (demanded at d o) (depth_of at os ds)
 
 -- what is asked below a node
 abbrev pub below : Label → Demand → Demand
+below l Nothing = Nothing
 below l (Whole d) = Whole (suc d)
 below l (Inside d) = Whole d
 below Plain (Assigned d) = Whole (suc d)
@@ -47,20 +50,23 @@ below Tuple (InsideAssigned d) = Whole d
 
 -- and below no node
 abbrev pub within : Demand → Demand
+within Nothing = Nothing
 within (Whole d) = Whole d
 within (Inside d) = Whole d
 within (Assigned d) = Whole d
 within (InsideAssigned d) = Whole d
 
--- of a node with another place
-abbrev pub moved : Demand → Demand
-moved (Whole d) = Inside (suc d)
-moved (Inside d) = Inside d
-moved (Assigned d) = Inside (suc d)
-moved (InsideAssigned d) = Inside d
+-- of a node that is none any more
+abbrev pub loosened : Demand → Demand
+loosened Nothing = Nothing
+loosened (Whole d) = Inside d
+loosened (Inside d) = Inside d
+loosened (Assigned d) = Inside d
+loosened (InsideAssigned d) = Inside d
 
 -- of an expression that turns out to be targets
 abbrev pub unassigned : Demand → Demand
+unassigned Nothing = Nothing
 unassigned (Whole d) = Assigned d
 unassigned (Inside d) = InsideAssigned d
 unassigned (Assigned d) = Assigned d
@@ -77,11 +83,13 @@ back (Over l p n) (d ∷ ds) = times n (below l d) ds
 back (Gather n) (d ∷ ds) = times n (within d) ds
 back (Join l) (d ∷ ds) = below l d ∷ d ∷ ds
 back JoinGroup (d ∷ ds) = within d ∷ d ∷ ds
-back (Move p) (d ∷ ds) = moved d ∷ ds
+back Loosen (d ∷ ds) = loosened d ∷ ds
 back Assign (d ∷ ds) = unassigned d ∷ ds
+back Forget (d ∷ ds) = d ∷ Nothing ∷ ds
 
 -- so many nodes stand above the one that comes, if one does
 abbrev pub comes : Label → Demand → Option ℕ
+comes l Nothing = None
 comes l (Whole d) = Some d
 comes l (Inside d) = None
 comes Tuple (Assigned d) = None
@@ -100,7 +108,6 @@ met p (Some d) nodes = record { place = p; above = d } ∷ nodes
 -- the node that an event brings
 abbrev pub brought : Event → List Demand → List Met → List Met
 brought (Over l p n) (d ∷ ds) nodes = met p (comes l d) nodes
-brought (Move p) (d ∷ ds) nodes = met p (comes Plain d) nodes
 brought e ds nodes = nodes
 
 -- all nodes, back through the events, the last of which stands first

@@ -5,6 +5,7 @@
 //! body: they carry laws.
 #![tactic(auto)]
 
+ghost use Rattle.py_nesting.specs.Effects.{EffectLaw};
 ghost use Rattle.py_nesting.specs.TooDeep.{ShallowLaw};
 ghost use Rattle.py_nesting.specs.TreeOutlines.{OutlineLaw};
 ghost use Rattle.py_nesting.specs.Walk.{WalkLaw};
@@ -22,4 +23,9 @@ pub fn walk_meets_the_nodes()
 /// The outline of a module has its depths.
 pub fn outline_has_the_depths()
     ensures law { OutlineLaw }
+{}
+
+/// What an action of the grammar's table does to parts, its effect does to their entries and outlines.
+pub fn effects_are_those_of_actions()
+    ensures law { EffectLaw }
 {}
