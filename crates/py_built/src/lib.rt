@@ -10,6 +10,3 @@ mod unbuilt;
 
 pub use building::build;
 pub use names::bind;
-
-#[cfg(test)]
-mod tests;

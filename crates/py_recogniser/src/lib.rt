@@ -7,7 +7,5 @@ mod measures;
 mod measuring;
 mod recognition;
 pub mod refusal;
-#[cfg(test)]
-mod tests;
 
 pub use recognition::recognise;

@@ -1,6 +1,0 @@
-use Rattle.parser_expressions.proofs.Taken.{upper_added}
-use Rattle.parser_expressions.proofs.expressions.with_upper.Goals as goal
-
-pub returns-in-None : goal.returns-in-None
-returns-in-None c close v =
-    upper_added c.args.slice c.args.upper c.in-Slice.object c.in-Slice.place c.in-Slice.lower c.in-Slice.bound close v c.in-Slice.is c.in-None.is
