@@ -22,7 +22,7 @@ enum Answer {
     Statements(usize),
     NoTokens(LexRefusal),
     Unexpected(Place),
-    Unbuilt,
+    TooDeep(Place),
     NoMemory,
 }
 
@@ -47,7 +47,11 @@ fn main(rt: HostRuntime) -> ExitCode {
             let column = place.column;
             println!(rt; "unexpected token at {line}:{column}")
         }
-        Answer::Unbuilt => println!(rt; "unbuilt"),
+        Answer::TooDeep(place) => {
+            let line = place.line;
+            let column = place.column;
+            println!(rt; "nested too deep at {line}:{column}")
+        }
         Answer::NoMemory => return ExitCode::from(8),
     };
     match said {
@@ -72,7 +76,7 @@ fn read_tree(alloc: Global, tokens: &[Token], names: &Names) -> Answer {
     match parse(alloc, tokens, names) {
         Ok(module) => Answer::Statements(module.body.len()),
         Err(ParseRefusal::Unexpected(place, _)) => Answer::Unexpected(place),
-        Err(ParseRefusal::Outside(_, _)) => Answer::Unbuilt,
+        Err(ParseRefusal::TooDeep(place)) => Answer::TooDeep(place),
         Err(ParseRefusal::NoMemory) => Answer::NoMemory,
     }
 }

@@ -10,7 +10,7 @@ use Rattle.py_syntax.proofs.MeasuresAgree.{IsTargetSo, AreSo, target_formed, tar
 use Rattle.py_nesting.specs.Outlines.{Plain, Bracket, Tuple, Outline, Node, Group, Outlines, none_below, more_below, as_targets, with_last, Event, Over, Gather, Join, JoinGroup, Loosen, Assign, Forget, after}
 use Rattle.py_nesting.specs.TreeOutlines.{leaf, one_below, two_below, names_outlines, loop_target_outline, expr_outline, exprs_outlines, maybe_outlines, pairs_outlines, links_outlines, keywords_outlines, loops_outlines, target_outline, target_list_outlines, targets_outline, assigned_outlines, parameters_outlines, stmt_outline, stmts_outlines, definition_outlines, body_outline, handlers_outlines}
 use Rattle.py_nesting.specs.Shapes.{ExprShape, SignShape, LoopShape, LoopTargetShape, TargetsShape, ClassShape, StmtShape, BodyShape, is_full, stmt_filled, is_filled, nowhere, Entry, entry, entries_of, outlines_of}
-use Rattle.py_nesting.specs.Effects.{Effect, effect, effect_drop, effect_make_leaf, effect_make_true, effect_make_false, effect_make_none, effect_make_empty_tuple, effect_make_parenthesis, effect_make_tuple, effect_add_item, effect_make_empty_list, effect_make_list_of_one, effect_make_list, effect_begin_comprehension, effect_begin_loop, effect_add_condition, effect_add_loop, effect_make_empty_dict, effect_begin_dict, effect_add_pair, effect_make_set_of_one, effect_make_set, effect_make_attribute, effect_begin_call, effect_add_argument, effect_add_keyword, effect_make_subscript, effect_make_slice_from, effect_make_slice, effect_add_upper, effect_make_unary, effect_make_binary, effect_make_sign, effect_make_long_sign, effect_make_compare, effect_add_link, effect_make_not, effect_make_and, effect_add_and, effect_make_or, effect_add_or, effect_make_conditional, effect_make_loop_name, effect_make_loop_names, effect_add_loop_name, effect_make_loop_parenthesis, effect_begin_body, effect_add_stmt, effect_make_expr_stmt, effect_make_targets, effect_add_targets, effect_make_assign, effect_make_augmented, effect_make_pass, effect_make_break, effect_make_continue, effect_make_return, effect_make_return_value, effect_make_raise, effect_make_yield, effect_begin_global, effect_add_global, effect_make_assert, effect_make_assert_message, effect_make_delete, effect_make_if, effect_make_elif, effect_make_else, effect_make_while, effect_make_for, effect_begin_try, effect_catch_all, effect_catch, effect_catch_as, effect_make_class_name, effect_make_class_within, effect_begin_def, effect_add_parameter, effect_add_default, effect_end_def, effect_begin_class, effect_add_base, effect_end_class, effect_begin_import, effect_begin_from, effect_add_imported, effect_add_imported_as, after_all, Keeps, EffectLaw}
+use Rattle.py_nesting.specs.Effects.{Effect, effect, effect_drop, effect_make_leaf, effect_constant, effect_make_empty_tuple, effect_bracket, effect_make_tuple, effect_add_item, effect_make_empty_list, effect_make_list, effect_begin_comprehension, effect_begin_loop, effect_add_condition, effect_add_loop, effect_make_empty_dict, effect_begin_dict, effect_add_pair, effect_make_set_of_one, effect_make_set, effect_make_attribute, effect_begin_call, effect_add_argument, effect_add_keyword, effect_make_subscript, effect_make_slice_from, effect_make_slice, effect_add_upper, effect_prefix, effect_infix, effect_make_sign, effect_make_long_sign, effect_make_compare, effect_add_link, effect_add_and, effect_add_or, effect_make_conditional, effect_make_loop_name, effect_make_loop_names, effect_add_loop_name, effect_make_loop_parenthesis, effect_begin_body, effect_add_stmt, effect_make_expr_stmt, effect_make_targets, effect_add_targets, effect_make_assign, effect_make_augmented, effect_word, effect_with_value, effect_begin_global, effect_add_global, effect_make_assert_message, effect_make_delete, effect_make_if, effect_make_elif, effect_make_else, effect_make_while, effect_make_for, effect_begin_try, effect_catch_all, effect_catch, effect_catch_as, effect_make_class_name, effect_make_class_within, effect_begin_def, effect_add_parameter, effect_add_default, effect_end_def, effect_begin_class, effect_add_base, effect_end_class, effect_begin_from, effect_add_imported, effect_add_imported_as, after_all, Keeps, EffectLaw}
 
 known : (v w : Parts) (es : List Entry) (events : List Event) (r : Effect) → Some (effect es events) ≡ Some r → entries_of w ≡ es
     → after_all events (Some (outlines_of v)) ≡ Some (outlines_of w) → Keeps v w r
@@ -193,15 +193,15 @@ keeps_drop : (v : Parts) (result : Effect) → effect_drop (entries_of v) ≡ So
 keeps_drop (PToken q ∷ v) result given = known (PToken q ∷ v) (drop (PToken q ∷ v)) (entries_of v) [] result given (refl) (refl)
 keeps_drop v result given = no_effect given
 
-keeps_make_true : (v : Parts) (result : Effect) → effect_make_true (entries_of v) ≡ Some result → Keeps v (make_true v) result
+keeps_make_true : (v : Parts) (result : Effect) → effect_constant (entries_of v) ≡ Some result → Keeps v (make_true v) result
 keeps_make_true (PToken (At p k) ∷ v) result given = known (PToken (At p k) ∷ v) (make_true (PToken (At p k) ∷ v)) (entry (ExprShape OtherForm false) p ∷ entries_of v) (Over Plain p 0 ∷ []) result given (refl) (refl)
 keeps_make_true v result given = no_effect given
 
-keeps_make_false : (v : Parts) (result : Effect) → effect_make_false (entries_of v) ≡ Some result → Keeps v (make_false v) result
+keeps_make_false : (v : Parts) (result : Effect) → effect_constant (entries_of v) ≡ Some result → Keeps v (make_false v) result
 keeps_make_false (PToken (At p k) ∷ v) result given = known (PToken (At p k) ∷ v) (make_false (PToken (At p k) ∷ v)) (entry (ExprShape OtherForm false) p ∷ entries_of v) (Over Plain p 0 ∷ []) result given (refl) (refl)
 keeps_make_false v result given = no_effect given
 
-keeps_make_none : (v : Parts) (result : Effect) → effect_make_none (entries_of v) ≡ Some result → Keeps v (make_none v) result
+keeps_make_none : (v : Parts) (result : Effect) → effect_constant (entries_of v) ≡ Some result → Keeps v (make_none v) result
 keeps_make_none (PToken (At p k) ∷ v) result given = known (PToken (At p k) ∷ v) (make_none (PToken (At p k) ∷ v)) (entry (ExprShape OtherForm false) p ∷ entries_of v) (Over Plain p 0 ∷ []) result given (refl) (refl)
 keeps_make_none v result given = no_effect given
 
@@ -209,7 +209,7 @@ keeps_make_empty_tuple : (v : Parts) (result : Effect) → effect_make_empty_tup
 keeps_make_empty_tuple (PToken close ∷ PToken (At p k) ∷ v) result given = known (PToken close ∷ PToken (At p k) ∷ v) (make_empty_tuple (PToken close ∷ PToken (At p k) ∷ v)) (entry (ExprShape OtherForm false) p ∷ entries_of v) (Over Plain p 0 ∷ []) result given (refl) (refl)
 keeps_make_empty_tuple v result given = no_effect given
 
-keeps_make_parenthesis : (v : Parts) (result : Effect) → effect_make_parenthesis (entries_of v) ≡ Some result → Keeps v (make_parenthesis v) result
+keeps_make_parenthesis : (v : Parts) (result : Effect) → effect_bracket (entries_of v) ≡ Some result → Keeps v (make_parenthesis v) result
 keeps_make_parenthesis (PToken close ∷ PExpr e ∷ PToken (At p k) ∷ v) result given = known (PToken close ∷ PExpr e ∷ PToken (At p k) ∷ v) (make_parenthesis (PToken close ∷ PExpr e ∷ PToken (At p k) ∷ v)) (entry (ExprShape (BracketForm (are_targets (expr_form e))) false) p ∷ entries_of v) (Over Bracket p 1 ∷ []) result given (refl) (refl)
 keeps_make_parenthesis v result given = no_effect given
 
@@ -225,7 +225,7 @@ keeps_make_empty_list : (v : Parts) (result : Effect) → effect_make_empty_list
 keeps_make_empty_list (PToken close ∷ PToken (At p k) ∷ v) result given = known (PToken close ∷ PToken (At p k) ∷ v) (make_empty_list (PToken close ∷ PToken (At p k) ∷ v)) (entry (ExprShape (BracketForm false) false) p ∷ entries_of v) (Over Bracket p 0 ∷ []) result given (refl) (refl)
 keeps_make_empty_list v result given = no_effect given
 
-keeps_make_list_of_one : (v : Parts) (result : Effect) → effect_make_list_of_one (entries_of v) ≡ Some result → Keeps v (make_list_of_one v) result
+keeps_make_list_of_one : (v : Parts) (result : Effect) → effect_bracket (entries_of v) ≡ Some result → Keeps v (make_list_of_one v) result
 keeps_make_list_of_one (PToken close ∷ PExpr e ∷ PToken (At p k) ∷ v) result given = known (PToken close ∷ PExpr e ∷ PToken (At p k) ∷ v) (make_list_of_one (PToken close ∷ PExpr e ∷ PToken (At p k) ∷ v)) (entry (ExprShape (BracketForm (are_targets (expr_form e))) false) p ∷ entries_of v) (Over Bracket p 1 ∷ []) result given (refl) (refl)
 keeps_make_list_of_one v result given = no_effect given
 
@@ -301,11 +301,11 @@ keeps_add_upper : (v : Parts) (result : Effect) → effect_add_upper (entries_of
 keeps_add_upper (PToken close ∷ PExpr u ∷ PExpr (ESlice p e l no_expr) ∷ v) result given = known (PToken close ∷ PExpr u ∷ PExpr (ESlice p e l no_expr) ∷ v) (add_upper (PToken close ∷ PExpr u ∷ PExpr (ESlice p e l no_expr) ∷ v)) (entry (ExprShape (SliceForm true) false) (start_of (ESlice p e l no_expr)) ∷ entries_of v) (Join Plain ∷ []) result given (refl) (ap (λ hole. Some (Node Plain p (more_below (expr_outline e) hole) ∷ outlines_of v)) (upper_last l u))
 keeps_add_upper v result given = no_effect given
 
-keeps_make_unary : (o : UnaryOperator) (v : Parts) (result : Effect) → effect_make_unary (entries_of v) ≡ Some result → Keeps v (make_unary o v) result
+keeps_make_unary : (o : UnaryOperator) (v : Parts) (result : Effect) → effect_prefix (entries_of v) ≡ Some result → Keeps v (make_unary o v) result
 keeps_make_unary o (PExpr e ∷ PToken (At p k) ∷ v) result given = known (PExpr e ∷ PToken (At p k) ∷ v) (make_unary o (PExpr e ∷ PToken (At p k) ∷ v)) (entry (ExprShape OtherForm false) p ∷ entries_of v) (Over Plain p 1 ∷ []) result given (refl) (refl)
 keeps_make_unary o v result given = no_effect given
 
-keeps_make_binary : (o : BinaryOperator) (v : Parts) (result : Effect) → effect_make_binary (entries_of v) ≡ Some result → Keeps v (make_binary o v) result
+keeps_make_binary : (o : BinaryOperator) (v : Parts) (result : Effect) → effect_infix OtherForm (entries_of v) ≡ Some result → Keeps v (make_binary o v) result
 keeps_make_binary o (PExpr d ∷ PToken (At p k) ∷ PExpr e ∷ v) result given = known (PExpr d ∷ PToken (At p k) ∷ PExpr e ∷ v) (make_binary o (PExpr d ∷ PToken (At p k) ∷ PExpr e ∷ v)) (entry (ExprShape OtherForm false) (start_of e) ∷ entries_of v) (Over Plain p 2 ∷ []) result given (refl) (refl)
 keeps_make_binary o v result given = no_effect given
 
@@ -325,11 +325,11 @@ keeps_add_link : (v : Parts) (result : Effect) → effect_add_link (entries_of v
 keeps_add_link (PExpr e ∷ PSign q u ∷ PExpr (ECompare p o d g links) ∷ v) result given = known (PExpr e ∷ PSign q u ∷ PExpr (ECompare p o d g links) ∷ v) (add_link (PExpr e ∷ PSign q u ∷ PExpr (ECompare p o d g links) ∷ v)) (entry (ExprShape CompareForm false) (start_of (ECompare p o d g links)) ∷ entries_of v) (Join Plain ∷ []) result given (refl) (ap (λ hole. Some (Node Plain p (more_below (expr_outline d) (more_below (expr_outline g) hole)) ∷ outlines_of v)) (links_last links q u e))
 keeps_add_link v result given = no_effect given
 
-keeps_make_not : (v : Parts) (result : Effect) → effect_make_not (entries_of v) ≡ Some result → Keeps v (make_not v) result
+keeps_make_not : (v : Parts) (result : Effect) → effect_prefix (entries_of v) ≡ Some result → Keeps v (make_not v) result
 keeps_make_not (PExpr e ∷ PToken (At p k) ∷ v) result given = known (PExpr e ∷ PToken (At p k) ∷ v) (make_not (PExpr e ∷ PToken (At p k) ∷ v)) (entry (ExprShape OtherForm false) p ∷ entries_of v) (Over Plain p 1 ∷ []) result given (refl) (refl)
 keeps_make_not v result given = no_effect given
 
-keeps_make_and : (v : Parts) (result : Effect) → effect_make_and (entries_of v) ≡ Some result → Keeps v (make_and v) result
+keeps_make_and : (v : Parts) (result : Effect) → effect_infix AndForm (entries_of v) ≡ Some result → Keeps v (make_and v) result
 keeps_make_and (PExpr d ∷ PToken (At p k) ∷ PExpr e ∷ v) result given = known (PExpr d ∷ PToken (At p k) ∷ PExpr e ∷ v) (make_and (PExpr d ∷ PToken (At p k) ∷ PExpr e ∷ v)) (entry (ExprShape AndForm false) (start_of e) ∷ entries_of v) (Over Plain p 2 ∷ []) result given (refl) (refl)
 keeps_make_and v result given = no_effect given
 
@@ -337,7 +337,7 @@ keeps_add_and : (v : Parts) (result : Effect) → effect_add_and (entries_of v) 
 keeps_add_and (PExpr e ∷ PToken and_word ∷ PExpr (EAnd p d g es) ∷ v) result given = known (PExpr e ∷ PToken and_word ∷ PExpr (EAnd p d g es) ∷ v) (add_and (PExpr e ∷ PToken and_word ∷ PExpr (EAnd p d g es) ∷ v)) (entry (ExprShape AndForm false) (start_of (EAnd p d g es)) ∷ entries_of v) (Join Plain ∷ []) result given (refl) (ap (λ hole. Some (Node Plain p (more_below (expr_outline d) (more_below (expr_outline g) hole)) ∷ outlines_of v)) (exprs_last es e))
 keeps_add_and v result given = no_effect given
 
-keeps_make_or : (v : Parts) (result : Effect) → effect_make_or (entries_of v) ≡ Some result → Keeps v (make_or v) result
+keeps_make_or : (v : Parts) (result : Effect) → effect_infix OrForm (entries_of v) ≡ Some result → Keeps v (make_or v) result
 keeps_make_or (PExpr d ∷ PToken (At p k) ∷ PExpr e ∷ v) result given = known (PExpr d ∷ PToken (At p k) ∷ PExpr e ∷ v) (make_or (PExpr d ∷ PToken (At p k) ∷ PExpr e ∷ v)) (entry (ExprShape OrForm false) (start_of e) ∷ entries_of v) (Over Plain p 2 ∷ []) result given (refl) (refl)
 keeps_make_or v result given = no_effect given
 
@@ -380,31 +380,31 @@ keeps_make_assign : (v : Parts) (result : Effect) → effect_make_assign (entrie
 keeps_make_assign (PExpr e ∷ PTargets p ts ∷ v) result given = known (PExpr e ∷ PTargets p ts ∷ v) (make_assign (PExpr e ∷ PTargets p ts ∷ v)) (entry (StmtShape OtherStmt false) nowhere ∷ entries_of v) (Over Plain p 2 ∷ []) result given (refl) (refl)
 keeps_make_assign v result given = no_effect given
 
-keeps_make_pass : (v : Parts) (result : Effect) → effect_make_pass (entries_of v) ≡ Some result → Keeps v (make_pass v) result
+keeps_make_pass : (v : Parts) (result : Effect) → effect_word (entries_of v) ≡ Some result → Keeps v (make_pass v) result
 keeps_make_pass (PToken (At p k) ∷ v) result given = known (PToken (At p k) ∷ v) (make_pass (PToken (At p k) ∷ v)) (entry (StmtShape OtherStmt false) nowhere ∷ entries_of v) (Over Plain p 0 ∷ []) result given (refl) (refl)
 keeps_make_pass v result given = no_effect given
 
-keeps_make_break : (v : Parts) (result : Effect) → effect_make_break (entries_of v) ≡ Some result → Keeps v (make_break v) result
+keeps_make_break : (v : Parts) (result : Effect) → effect_word (entries_of v) ≡ Some result → Keeps v (make_break v) result
 keeps_make_break (PToken (At p k) ∷ v) result given = known (PToken (At p k) ∷ v) (make_break (PToken (At p k) ∷ v)) (entry (StmtShape OtherStmt false) nowhere ∷ entries_of v) (Over Plain p 0 ∷ []) result given (refl) (refl)
 keeps_make_break v result given = no_effect given
 
-keeps_make_continue : (v : Parts) (result : Effect) → effect_make_continue (entries_of v) ≡ Some result → Keeps v (make_continue v) result
+keeps_make_continue : (v : Parts) (result : Effect) → effect_word (entries_of v) ≡ Some result → Keeps v (make_continue v) result
 keeps_make_continue (PToken (At p k) ∷ v) result given = known (PToken (At p k) ∷ v) (make_continue (PToken (At p k) ∷ v)) (entry (StmtShape OtherStmt false) nowhere ∷ entries_of v) (Over Plain p 0 ∷ []) result given (refl) (refl)
 keeps_make_continue v result given = no_effect given
 
-keeps_make_return : (v : Parts) (result : Effect) → effect_make_return (entries_of v) ≡ Some result → Keeps v (make_return v) result
+keeps_make_return : (v : Parts) (result : Effect) → effect_word (entries_of v) ≡ Some result → Keeps v (make_return v) result
 keeps_make_return (PToken (At p k) ∷ v) result given = known (PToken (At p k) ∷ v) (make_return (PToken (At p k) ∷ v)) (entry (StmtShape OtherStmt false) nowhere ∷ entries_of v) (Over Plain p 0 ∷ []) result given (refl) (refl)
 keeps_make_return v result given = no_effect given
 
-keeps_make_return_value : (v : Parts) (result : Effect) → effect_make_return_value (entries_of v) ≡ Some result → Keeps v (make_return_value v) result
+keeps_make_return_value : (v : Parts) (result : Effect) → effect_with_value (entries_of v) ≡ Some result → Keeps v (make_return_value v) result
 keeps_make_return_value (PExpr e ∷ PToken (At p k) ∷ v) result given = known (PExpr e ∷ PToken (At p k) ∷ v) (make_return_value (PExpr e ∷ PToken (At p k) ∷ v)) (entry (StmtShape OtherStmt false) nowhere ∷ entries_of v) (Over Plain p 1 ∷ []) result given (refl) (refl)
 keeps_make_return_value v result given = no_effect given
 
-keeps_make_raise : (v : Parts) (result : Effect) → effect_make_raise (entries_of v) ≡ Some result → Keeps v (make_raise v) result
+keeps_make_raise : (v : Parts) (result : Effect) → effect_with_value (entries_of v) ≡ Some result → Keeps v (make_raise v) result
 keeps_make_raise (PExpr e ∷ PToken (At p k) ∷ v) result given = known (PExpr e ∷ PToken (At p k) ∷ v) (make_raise (PExpr e ∷ PToken (At p k) ∷ v)) (entry (StmtShape OtherStmt false) nowhere ∷ entries_of v) (Over Plain p 1 ∷ []) result given (refl) (refl)
 keeps_make_raise v result given = no_effect given
 
-keeps_make_yield : (v : Parts) (result : Effect) → effect_make_yield (entries_of v) ≡ Some result → Keeps v (make_yield v) result
+keeps_make_yield : (v : Parts) (result : Effect) → effect_with_value (entries_of v) ≡ Some result → Keeps v (make_yield v) result
 keeps_make_yield (PExpr e ∷ PToken (At p k) ∷ v) result given = known (PExpr e ∷ PToken (At p k) ∷ v) (make_yield (PExpr e ∷ PToken (At p k) ∷ v)) (entry (StmtShape OtherStmt false) nowhere ∷ entries_of v) (Over Plain p 1 ∷ []) result given (refl) (refl)
 keeps_make_yield v result given = no_effect given
 
@@ -416,7 +416,7 @@ keeps_add_global : (v : Parts) (result : Effect) → effect_add_global (entries_
 keeps_add_global (PToken (At q (TName s x)) ∷ PStmt (SGlobal p xs) ∷ v) result given = known (PToken (At q (TName s x)) ∷ PStmt (SGlobal p xs) ∷ v) (add_global (PToken (At q (TName s x)) ∷ PStmt (SGlobal p xs) ∷ v)) (entry (StmtShape GlobalStmt false) nowhere ∷ entries_of v) [] result given (refl) (refl)
 keeps_add_global v result given = no_effect given
 
-keeps_make_assert : (v : Parts) (result : Effect) → effect_make_assert (entries_of v) ≡ Some result → Keeps v (make_assert v) result
+keeps_make_assert : (v : Parts) (result : Effect) → effect_with_value (entries_of v) ≡ Some result → Keeps v (make_assert v) result
 keeps_make_assert (PExpr e ∷ PToken (At p k) ∷ v) result given = known (PExpr e ∷ PToken (At p k) ∷ v) (make_assert (PExpr e ∷ PToken (At p k) ∷ v)) (entry (StmtShape OtherStmt false) nowhere ∷ entries_of v) (Over Plain p 1 ∷ []) result given (refl) (refl)
 keeps_make_assert v result given = no_effect given
 
@@ -500,7 +500,7 @@ keeps_end_class : (v : Parts) (result : Effect) → effect_end_class (entries_of
 keeps_end_class (PBody (more_stmts s b) ∷ PToken colon ∷ PStmt (SClass p x base no_stmts) ∷ v) result given = known (PBody (more_stmts s b) ∷ PToken colon ∷ PStmt (SClass p x base no_stmts) ∷ v) (end_class (PBody (more_stmts s b) ∷ PToken colon ∷ PStmt (SClass p x base no_stmts) ∷ v)) (entry (StmtShape ClassStmt true) nowhere ∷ entries_of v) (Join Plain ∷ []) result given (refl) (refl)
 keeps_end_class v result given = no_effect given
 
-keeps_begin_import : (v : Parts) (result : Effect) → effect_begin_import (entries_of v) ≡ Some result → Keeps v (begin_import v) result
+keeps_begin_import : (v : Parts) (result : Effect) → effect_word (entries_of v) ≡ Some result → Keeps v (begin_import v) result
 keeps_begin_import (PToken (At p k) ∷ v) result given = known (PToken (At p k) ∷ v) (begin_import (PToken (At p k) ∷ v)) (entry (StmtShape OtherStmt false) nowhere ∷ entries_of v) (Over Plain p 0 ∷ []) result given (refl) (refl)
 keeps_begin_import v result given = no_effect given
 

@@ -4,3 +4,4 @@ pub mod DepthVectors
 pub mod OutlinesCount
 pub mod EffectsKept
 pub mod WalkCounts
+pub mod FirstFound

@@ -1,7 +1,7 @@
 -- What each action does to entries, and how it puts outlines together. Where what it takes is not there, it does nothing.
 use Rattle.std.specs.Prelude.{◌≡◌, true, false, ◌&&◌, if◌then◌else◌, List, [], ◌∷◌, Option, Some, None}
 use Rattle.py_syntax.specs.Build.{Parts, act, Action, Drop, MakeLeaf, MakeTrue, MakeFalse, MakeNone, MakeEmptyTuple, MakeParenthesis, MakeTuple, AddItem, MakeEmptyList, MakeListOfOne, MakeList, BeginComprehension, BeginLoop, AddCondition, AddLoop, MakeEmptyDict, BeginDict, AddPair, MakeSetOfOne, MakeSet, MakeAttribute, BeginCall, AddArgument, AddKeyword, MakeSubscript, MakeSliceFrom, MakeSlice, AddUpper, MakeUnary, MakeBinary, MakeSign, MakeLongSign, MakeCompare, AddLink, MakeNot, MakeAnd, AddAnd, MakeOr, AddOr, MakeConditional, MakeLoopName, MakeLoopNames, AddLoopName, MakeLoopParenthesis, BeginBody, AddStmt, MakeExprStmt, MakeTargets, AddTargets, MakeAssign, MakeAugmented, MakePass, MakeBreak, MakeContinue, MakeReturn, MakeReturnValue, MakeRaise, MakeYield, BeginGlobal, AddGlobal, MakeAssert, MakeAssertMessage, MakeDelete, MakeIf, MakeElif, MakeElse, MakeWhile, MakeFor, BeginTry, CatchAll, Catch, CatchAs, MakeClassName, MakeClassWithin, BeginDef, AddParameter, AddDefault, EndDef, BeginClass, AddBase, EndClass, BeginImport, BeginFrom, AddImported, AddImportedAs}
-use Rattle.py_syntax.specs.Measures.{NameToken, LiteralToken, NameForm, TargetForm, SubscriptForm, TupleForm, BracketForm, ComprehensionForm, DictForm, CallForm, SliceForm, CompareForm, AndForm, OrForm, OtherForm, OneName, SomeNames, NamesInBrackets, BareName, DottedName, GlobalStmt, TryStmt, DefStmt, ClassStmt, OtherStmt, is_target, are_targets}
+use Rattle.py_syntax.specs.Measures.{NameToken, LiteralToken, NameForm, TargetForm, SubscriptForm, TupleForm, BracketForm, ComprehensionForm, DictForm, CallForm, SliceForm, CompareForm, ExprForm, AndForm, OrForm, OtherForm, OneName, SomeNames, NamesInBrackets, BareName, DottedName, GlobalStmt, TryStmt, DefStmt, ClassStmt, OtherStmt, is_target, are_targets}
 use Rattle.py_nesting.specs.Outlines.{Plain, Bracket, Tuple, Outline, Event, Over, Gather, Join, JoinGroup, Loosen, Assign, Forget, after}
 use Rattle.py_nesting.specs.Shapes.{TokenShape, ExprShape, SignShape, LoopShape, LoopTargetShape, TargetsShape, ClassShape, StmtShape, BodyShape, nowhere, Entry, entry, entries_of, outlines_of}
 
@@ -18,25 +18,17 @@ effect_make_leaf (entry (TokenShape NameToken) p ∷ es) = Some (effect (entry (
 effect_make_leaf (entry (TokenShape LiteralToken) p ∷ es) = Some (effect (entry (ExprShape OtherForm false) p ∷ es) (Over Plain p 0 ∷ []))
 effect_make_leaf es = None
 
-abbrev pub effect_make_true : List Entry → Option Effect
-effect_make_true (entry (TokenShape t) p ∷ es) = Some (effect (entry (ExprShape OtherForm false) p ∷ es) (Over Plain p 0 ∷ []))
-effect_make_true es = None
-
-abbrev pub effect_make_false : List Entry → Option Effect
-effect_make_false (entry (TokenShape t) p ∷ es) = Some (effect (entry (ExprShape OtherForm false) p ∷ es) (Over Plain p 0 ∷ []))
-effect_make_false es = None
-
-abbrev pub effect_make_none : List Entry → Option Effect
-effect_make_none (entry (TokenShape t) p ∷ es) = Some (effect (entry (ExprShape OtherForm false) p ∷ es) (Over Plain p 0 ∷ []))
-effect_make_none es = None
+abbrev pub effect_constant : List Entry → Option Effect
+effect_constant (entry (TokenShape t) p ∷ es) = Some (effect (entry (ExprShape OtherForm false) p ∷ es) (Over Plain p 0 ∷ []))
+effect_constant es = None
 
 abbrev pub effect_make_empty_tuple : List Entry → Option Effect
 effect_make_empty_tuple (entry (TokenShape c) q ∷ entry (TokenShape t) p ∷ es) = Some (effect (entry (ExprShape OtherForm false) p ∷ es) (Over Plain p 0 ∷ []))
 effect_make_empty_tuple es = None
 
-abbrev pub effect_make_parenthesis : List Entry → Option Effect
-effect_make_parenthesis (entry (TokenShape c) q ∷ entry (ExprShape f n) a ∷ entry (TokenShape t) p ∷ es) = Some (effect (entry (ExprShape (BracketForm (are_targets f)) false) p ∷ es) (Over Bracket p 1 ∷ []))
-effect_make_parenthesis es = None
+abbrev pub effect_bracket : List Entry → Option Effect
+effect_bracket (entry (TokenShape c) q ∷ entry (ExprShape f n) a ∷ entry (TokenShape t) p ∷ es) = Some (effect (entry (ExprShape (BracketForm (are_targets f)) false) p ∷ es) (Over Bracket p 1 ∷ []))
+effect_bracket es = None
 
 abbrev pub effect_make_tuple : List Entry → Option Effect
 effect_make_tuple (entry (TokenShape t) p ∷ entry (ExprShape f n) a ∷ es) = Some (effect (entry (ExprShape (TupleForm (is_target f)) false) a ∷ es) (Over Tuple p 1 ∷ []))
@@ -49,10 +41,6 @@ effect_add_item es = None
 abbrev pub effect_make_empty_list : List Entry → Option Effect
 effect_make_empty_list (entry (TokenShape c) q ∷ entry (TokenShape t) p ∷ es) = Some (effect (entry (ExprShape (BracketForm false) false) p ∷ es) (Over Bracket p 0 ∷ []))
 effect_make_empty_list es = None
-
-abbrev pub effect_make_list_of_one : List Entry → Option Effect
-effect_make_list_of_one (entry (TokenShape c) q ∷ entry (ExprShape f n) a ∷ entry (TokenShape t) p ∷ es) = Some (effect (entry (ExprShape (BracketForm (are_targets f)) false) p ∷ es) (Over Bracket p 1 ∷ []))
-effect_make_list_of_one es = None
 
 abbrev pub effect_make_list : List Entry → Option Effect
 effect_make_list (entry (TokenShape c) q ∷ entry (ExprShape (TupleForm u) n) a ∷ entry (TokenShape t) p ∷ es) = Some (effect (entry (ExprShape (BracketForm u) false) p ∷ es) (Over Bracket p 1 ∷ Loosen ∷ []))
@@ -126,13 +114,13 @@ abbrev pub effect_add_upper : List Entry → Option Effect
 effect_add_upper (entry (TokenShape c) q ∷ entry (ExprShape f n) b ∷ entry (ExprShape (SliceForm false) m) a ∷ es) = Some (effect (entry (ExprShape (SliceForm true) false) a ∷ es) (Join Plain ∷ []))
 effect_add_upper es = None
 
-abbrev pub effect_make_unary : List Entry → Option Effect
-effect_make_unary (entry (ExprShape f n) a ∷ entry (TokenShape t) p ∷ es) = Some (effect (entry (ExprShape OtherForm false) p ∷ es) (Over Plain p 1 ∷ []))
-effect_make_unary es = None
+abbrev pub effect_prefix : List Entry → Option Effect
+effect_prefix (entry (ExprShape f n) a ∷ entry (TokenShape t) p ∷ es) = Some (effect (entry (ExprShape OtherForm false) p ∷ es) (Over Plain p 1 ∷ []))
+effect_prefix es = None
 
-abbrev pub effect_make_binary : List Entry → Option Effect
-effect_make_binary (entry (ExprShape f n) b ∷ entry (TokenShape t) p ∷ entry (ExprShape g m) a ∷ es) = Some (effect (entry (ExprShape OtherForm false) a ∷ es) (Over Plain p 2 ∷ []))
-effect_make_binary es = None
+abbrev pub effect_infix : ExprForm → List Entry → Option Effect
+effect_infix form (entry (ExprShape f n) b ∷ entry (TokenShape t) p ∷ entry (ExprShape g m) a ∷ es) = Some (effect (entry (ExprShape form false) a ∷ es) (Over Plain p 2 ∷ []))
+effect_infix form es = None
 
 abbrev pub effect_make_sign : List Entry → Option Effect
 effect_make_sign (entry (TokenShape t) p ∷ es) = Some (effect (entry SignShape p ∷ es) [])
@@ -150,21 +138,9 @@ abbrev pub effect_add_link : List Entry → Option Effect
 effect_add_link (entry (ExprShape f n) b ∷ entry SignShape q ∷ entry (ExprShape CompareForm m) a ∷ es) = Some (effect (entry (ExprShape CompareForm false) a ∷ es) (Join Plain ∷ []))
 effect_add_link es = None
 
-abbrev pub effect_make_not : List Entry → Option Effect
-effect_make_not (entry (ExprShape f n) a ∷ entry (TokenShape t) p ∷ es) = Some (effect (entry (ExprShape OtherForm false) p ∷ es) (Over Plain p 1 ∷ []))
-effect_make_not es = None
-
-abbrev pub effect_make_and : List Entry → Option Effect
-effect_make_and (entry (ExprShape f n) b ∷ entry (TokenShape t) p ∷ entry (ExprShape g m) a ∷ es) = Some (effect (entry (ExprShape AndForm false) a ∷ es) (Over Plain p 2 ∷ []))
-effect_make_and es = None
-
 abbrev pub effect_add_and : List Entry → Option Effect
 effect_add_and (entry (ExprShape f n) b ∷ entry (TokenShape c) q ∷ entry (ExprShape AndForm m) a ∷ es) = Some (effect (entry (ExprShape AndForm false) a ∷ es) (Join Plain ∷ []))
 effect_add_and es = None
-
-abbrev pub effect_make_or : List Entry → Option Effect
-effect_make_or (entry (ExprShape f n) b ∷ entry (TokenShape t) p ∷ entry (ExprShape g m) a ∷ es) = Some (effect (entry (ExprShape OrForm false) a ∷ es) (Over Plain p 2 ∷ []))
-effect_make_or es = None
 
 abbrev pub effect_add_or : List Entry → Option Effect
 effect_add_or (entry (ExprShape f n) b ∷ entry (TokenShape c) q ∷ entry (ExprShape OrForm m) a ∷ es) = Some (effect (entry (ExprShape OrForm false) a ∷ es) (Join Plain ∷ []))
@@ -220,33 +196,13 @@ effect_make_augmented (entry (ExprShape f n) b ∷ entry (TokenShape c) q ∷ en
     if is_target g then Some (effect (entry (StmtShape OtherStmt false) nowhere ∷ es) (Over Plain a 2 ∷ [])) else None
 effect_make_augmented es = None
 
-abbrev pub effect_make_pass : List Entry → Option Effect
-effect_make_pass (entry (TokenShape t) p ∷ es) = Some (effect (entry (StmtShape OtherStmt false) nowhere ∷ es) (Over Plain p 0 ∷ []))
-effect_make_pass es = None
+abbrev pub effect_word : List Entry → Option Effect
+effect_word (entry (TokenShape t) p ∷ es) = Some (effect (entry (StmtShape OtherStmt false) nowhere ∷ es) (Over Plain p 0 ∷ []))
+effect_word es = None
 
-abbrev pub effect_make_break : List Entry → Option Effect
-effect_make_break (entry (TokenShape t) p ∷ es) = Some (effect (entry (StmtShape OtherStmt false) nowhere ∷ es) (Over Plain p 0 ∷ []))
-effect_make_break es = None
-
-abbrev pub effect_make_continue : List Entry → Option Effect
-effect_make_continue (entry (TokenShape t) p ∷ es) = Some (effect (entry (StmtShape OtherStmt false) nowhere ∷ es) (Over Plain p 0 ∷ []))
-effect_make_continue es = None
-
-abbrev pub effect_make_return : List Entry → Option Effect
-effect_make_return (entry (TokenShape t) p ∷ es) = Some (effect (entry (StmtShape OtherStmt false) nowhere ∷ es) (Over Plain p 0 ∷ []))
-effect_make_return es = None
-
-abbrev pub effect_make_return_value : List Entry → Option Effect
-effect_make_return_value (entry (ExprShape f n) a ∷ entry (TokenShape t) p ∷ es) = Some (effect (entry (StmtShape OtherStmt false) nowhere ∷ es) (Over Plain p 1 ∷ []))
-effect_make_return_value es = None
-
-abbrev pub effect_make_raise : List Entry → Option Effect
-effect_make_raise (entry (ExprShape f n) a ∷ entry (TokenShape t) p ∷ es) = Some (effect (entry (StmtShape OtherStmt false) nowhere ∷ es) (Over Plain p 1 ∷ []))
-effect_make_raise es = None
-
-abbrev pub effect_make_yield : List Entry → Option Effect
-effect_make_yield (entry (ExprShape f n) a ∷ entry (TokenShape t) p ∷ es) = Some (effect (entry (StmtShape OtherStmt false) nowhere ∷ es) (Over Plain p 1 ∷ []))
-effect_make_yield es = None
+abbrev pub effect_with_value : List Entry → Option Effect
+effect_with_value (entry (ExprShape f n) a ∷ entry (TokenShape t) p ∷ es) = Some (effect (entry (StmtShape OtherStmt false) nowhere ∷ es) (Over Plain p 1 ∷ []))
+effect_with_value es = None
 
 abbrev pub effect_begin_global : List Entry → Option Effect
 effect_begin_global (entry (TokenShape t) p ∷ es) = Some (effect (entry (StmtShape GlobalStmt false) nowhere ∷ es) (Over Plain p 0 ∷ []))
@@ -255,10 +211,6 @@ effect_begin_global es = None
 abbrev pub effect_add_global : List Entry → Option Effect
 effect_add_global (entry (TokenShape NameToken) q ∷ entry (StmtShape GlobalStmt m) b ∷ es) = Some (effect (entry (StmtShape GlobalStmt false) nowhere ∷ es) [])
 effect_add_global es = None
-
-abbrev pub effect_make_assert : List Entry → Option Effect
-effect_make_assert (entry (ExprShape f n) a ∷ entry (TokenShape t) p ∷ es) = Some (effect (entry (StmtShape OtherStmt false) nowhere ∷ es) (Over Plain p 1 ∷ []))
-effect_make_assert es = None
 
 abbrev pub effect_make_assert_message : List Entry → Option Effect
 effect_make_assert_message (entry (ExprShape f n) b ∷ entry (TokenShape c) q ∷ entry (ExprShape g m) a ∷ entry (TokenShape t) p ∷ es) = Some (effect (entry (StmtShape OtherStmt false) nowhere ∷ es) (Over Plain p 2 ∷ []))
@@ -340,10 +292,6 @@ abbrev pub effect_end_class : List Entry → Option Effect
 effect_end_class (entry (BodyShape true) a ∷ entry (TokenShape t) p ∷ entry (StmtShape ClassStmt false) b ∷ es) = Some (effect (entry (StmtShape ClassStmt true) nowhere ∷ es) (Join Plain ∷ []))
 effect_end_class es = None
 
-abbrev pub effect_begin_import : List Entry → Option Effect
-effect_begin_import (entry (TokenShape t) p ∷ es) = Some (effect (entry (StmtShape OtherStmt false) nowhere ∷ es) (Over Plain p 0 ∷ []))
-effect_begin_import es = None
-
 abbrev pub effect_begin_from : List Entry → Option Effect
 effect_begin_from (entry (TokenShape c) q ∷ entry (TokenShape NameToken) r ∷ entry (TokenShape t) p ∷ es) = Some (effect (entry (StmtShape OtherStmt false) nowhere ∷ es) (Over Plain p 0 ∷ []))
 effect_begin_from es = None
@@ -359,15 +307,15 @@ effect_add_imported_as es = None
 abbrev pub effect_of : Action → List Entry → Option Effect
 effect_of Drop es = effect_drop es
 effect_of MakeLeaf es = effect_make_leaf es
-effect_of MakeTrue es = effect_make_true es
-effect_of MakeFalse es = effect_make_false es
-effect_of MakeNone es = effect_make_none es
+effect_of MakeTrue es = effect_constant es
+effect_of MakeFalse es = effect_constant es
+effect_of MakeNone es = effect_constant es
 effect_of MakeEmptyTuple es = effect_make_empty_tuple es
-effect_of MakeParenthesis es = effect_make_parenthesis es
+effect_of MakeParenthesis es = effect_bracket es
 effect_of MakeTuple es = effect_make_tuple es
 effect_of AddItem es = effect_add_item es
 effect_of MakeEmptyList es = effect_make_empty_list es
-effect_of MakeListOfOne es = effect_make_list_of_one es
+effect_of MakeListOfOne es = effect_bracket es
 effect_of MakeList es = effect_make_list es
 effect_of BeginComprehension es = effect_begin_comprehension es
 effect_of BeginLoop es = effect_begin_loop es
@@ -386,16 +334,16 @@ effect_of MakeSubscript es = effect_make_subscript es
 effect_of MakeSliceFrom es = effect_make_slice_from es
 effect_of MakeSlice es = effect_make_slice es
 effect_of AddUpper es = effect_add_upper es
-effect_of (MakeUnary o) es = effect_make_unary es
-effect_of (MakeBinary o) es = effect_make_binary es
+effect_of (MakeUnary o) es = effect_prefix es
+effect_of (MakeBinary o) es = effect_infix OtherForm es
 effect_of (MakeSign o) es = effect_make_sign es
 effect_of (MakeLongSign o) es = effect_make_long_sign es
 effect_of MakeCompare es = effect_make_compare es
 effect_of AddLink es = effect_add_link es
-effect_of MakeNot es = effect_make_not es
-effect_of MakeAnd es = effect_make_and es
+effect_of MakeNot es = effect_prefix es
+effect_of MakeAnd es = effect_infix AndForm es
 effect_of AddAnd es = effect_add_and es
-effect_of MakeOr es = effect_make_or es
+effect_of MakeOr es = effect_infix OrForm es
 effect_of AddOr es = effect_add_or es
 effect_of MakeConditional es = effect_make_conditional es
 effect_of MakeLoopName es = effect_make_loop_name es
@@ -409,16 +357,16 @@ effect_of MakeTargets es = effect_make_targets es
 effect_of AddTargets es = effect_add_targets es
 effect_of MakeAssign es = effect_make_assign es
 effect_of (MakeAugmented o) es = effect_make_augmented es
-effect_of MakePass es = effect_make_pass es
-effect_of MakeBreak es = effect_make_break es
-effect_of MakeContinue es = effect_make_continue es
-effect_of MakeReturn es = effect_make_return es
-effect_of MakeReturnValue es = effect_make_return_value es
-effect_of MakeRaise es = effect_make_raise es
-effect_of MakeYield es = effect_make_yield es
+effect_of MakePass es = effect_word es
+effect_of MakeBreak es = effect_word es
+effect_of MakeContinue es = effect_word es
+effect_of MakeReturn es = effect_word es
+effect_of MakeReturnValue es = effect_with_value es
+effect_of MakeRaise es = effect_with_value es
+effect_of MakeYield es = effect_with_value es
 effect_of BeginGlobal es = effect_begin_global es
 effect_of AddGlobal es = effect_add_global es
-effect_of MakeAssert es = effect_make_assert es
+effect_of MakeAssert es = effect_with_value es
 effect_of MakeAssertMessage es = effect_make_assert_message es
 effect_of MakeDelete es = effect_make_delete es
 effect_of MakeIf es = effect_make_if es
@@ -439,7 +387,7 @@ effect_of EndDef es = effect_end_def es
 effect_of BeginClass es = effect_begin_class es
 effect_of AddBase es = effect_add_base es
 effect_of EndClass es = effect_end_class es
-effect_of BeginImport es = effect_begin_import es
+effect_of BeginImport es = effect_word es
 effect_of BeginFrom es = effect_begin_from es
 effect_of AddImported es = effect_add_imported es
 effect_of AddImportedAs es = effect_add_imported_as es

@@ -5,3 +5,4 @@ pub mod TreeOutlines
 pub mod Shapes
 pub mod Effects
 pub mod Walk
+pub mod First

@@ -6,6 +6,7 @@
 #![tactic(auto)]
 
 ghost use Rattle.py_nesting.specs.Effects.{EffectLaw};
+ghost use Rattle.py_nesting.specs.First.{FirstLaw};
 ghost use Rattle.py_nesting.specs.TooDeep.{ShallowLaw};
 ghost use Rattle.py_nesting.specs.TreeOutlines.{OutlineLaw};
 ghost use Rattle.py_nesting.specs.Walk.{WalkLaw};
@@ -18,6 +19,11 @@ pub fn shallow_where_no_place_is_too_deep()
 /// Going back through the steps that put outlines together meets each of their nodes, with as many above it as stand there.
 pub fn walk_meets_the_nodes()
     ensures law { WalkLaw }
+{}
+
+/// Of the nodes that are met, the first that lies too deep is the first of the module.
+pub fn walk_finds_the_first()
+    ensures law { FirstLaw }
 {}
 
 /// The outline of a module has its depths.

@@ -17,13 +17,13 @@ use std::alloc::Global;
 
 /// The tree of a module's tokens, in which names stand for the texts of `names`.
 ///
-/// Fails with the first token with which no front of a module goes on; where a node of the tree has more than 100 others
-/// above it; and with `NoMemory` where memory runs out.
+/// Fails with the first token with which no front of a module goes on; with the first place where a node of the tree has
+/// more than 100 others above it; and with `NoMemory` where memory runs out.
 pub fn parse(alloc: Global, tokens: &[Token], names: &Names) -> Result<Module, ParseRefusal>
     ensures tree { IfOk result (λ m. IsModule (plain m) (plain_tokens names.now tokens.now) × IsShallow (plain m)) }
     ensures refused { IfErr result (IsParseRefused names.now tokens.now) }
 {
-    let _height = recognise(alloc, tokens, names)?;
+    recognise(alloc, tokens, names)?;
     let module = build(alloc, tokens, names)?;
     Ok(module)
 }

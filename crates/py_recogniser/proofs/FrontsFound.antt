@@ -11,7 +11,7 @@ use Rattle.py_lexer.specs.declared.token.TokenKind.{TokenKind}
 use Rattle.py_lexer.specs.declared.token.TokenKind.TheVariants as kind
 use Rattle.py_lexer.specs.declared.token.Token.{Token as TokenRead}
 use Rattle.py_table.specs.PlainTokens.{plain_kind, plain_tokens}
-use Rattle.py_recogniser.specs.Recognised.{IsRest}
+use Rattle.py_depth.specs.Found.{IsRest}
 use Rattle.py_recogniser.specs.Refused.{last_place, IsFound}
 use Rattle.shed_base.specs.declared.place.Place.{Place}
 use Rattle.py_recogniser.specs.declared.refusal.Found.{Found}

@@ -1,3 +1,1 @@
-pub mod MeasureStacks
-pub mod MeasuresStand
-pub mod FrontsFound
+mod FrontsFound

@@ -1,3 +1,2 @@
-pub mod PlainMeasures
 pub mod Recognised
 pub mod Refused

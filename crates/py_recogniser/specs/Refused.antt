@@ -4,7 +4,7 @@ use Rattle.py_tokens.specs.Token as texts
 use Rattle.py_syntax.specs.Tree.{Body}
 use Rattle.py_syntax.specs.Grammar.{IsModule}
 use Rattle.py_syntax.specs.Laws.{IsLongestFront}
-use Rattle.py_syntax.specs.Heights.{IsShallow}
+use Rattle.py_nesting.specs.TooDeep.{IsFirstTooDeep}
 use Rattle.py_lexer.specs.PlainTokens.{plain_place, plain_kind, plain_tokens as text_tokens}
 use Rattle.py_lexer.specs.declared.token.Token.{Token as TokenRead}
 use Rattle.py_table.specs.PlainTokens.{plain_tokens}
@@ -33,6 +33,5 @@ abbrev pub IsParseRefused : List (List ℕ) → List TokenRead → ParseRefusal 
 IsParseRefused names ts (refusal.Unexpected p f) =
     (count : ℕ) × IsLongestFront (take count (plain_tokens names ts)) (drop count (plain_tokens names ts))
     × IsFound names (text_tokens names ts) p f (drop count (text_tokens names ts))
-IsParseRefused names ts (refusal.Outside p c) =
-    (plain_place p ≡ beginning) × (tree : Body) × IsModule tree (plain_tokens names ts) × (IsShallow tree → ⊥)
+IsParseRefused names ts (refusal.TooDeep p) = (tree : Body) × IsModule tree (plain_tokens names ts) × IsFirstTooDeep (plain_place p) tree
 IsParseRefused names ts refusal.NoMemory = Unit {0}

@@ -1,10 +1,6 @@
-//! Whether the tokens of a text are a module of the profile, and how deep its tree is. No tree is built.
+//! Whether the tokens of a text are a module of the profile that is not nested too deep. No tree is built.
 #![tactic(auto)]
 
-mod measured_expressions;
-mod measured_statements;
-mod measures;
-mod measuring;
 mod recognition;
 pub mod refusal;
 

@@ -1,20 +1,17 @@
-//! Whether tokens are a module, and how high its tree is.
+//! Whether tokens are a module that is not nested too deep.
 
-ghost use Rattle.std.specs.Prelude.{ℕ, ◌≡◌, ◌≤◌, List, [], ◌∷◌, IfOk, IfErr};
+ghost use Rattle.std.specs.Prelude.{ℕ, ◌≡◌, List, IfOk, IfErr, OnOk};
 ghost use Rattle.py_lexer.specs.PlainTokens.{plain_place, plain_kind, plain_tokens as text_tokens};
 ghost use Rattle.py_table.specs.PlainTokens.{plain_tokens};
 ghost use Rattle.py_recogniser.specs.Recognised.{IsRecognised};
 ghost use Rattle.py_recogniser.specs.Refused.{last_place, IsFound, IsParseRefused};
 
-use crate::measuring::{Measured, measure};
-use crate::refusal::{Construct, Found, ParseRefusal};
+use crate::refusal::{Found, ParseRefusal};
+use py_depth::{Depth, find_depth};
 use py_lexer::token::{Token, TokenKind};
 use shed_base::{Names, Place};
 use sqlite_items::Items;
 use std::alloc::{AllocError, Global};
-
-/// The most nodes on a path of a tree: a node may have 100 others above it.
-const MOST_NODES: u32 = 101;
 
 /// Where a module begins.
 const BEGINNING: Place = Place {
@@ -63,23 +60,21 @@ fn found(alloc: Global, tokens: &[Token], rest: &[Token]) -> Result<(Place, Foun
     }
 }
 
-/// The height of the tree of a module's tokens, in nodes; names among the tokens stand for the texts of `names`.
+/// Whether tokens are a module; names among the tokens stand for the texts of `names`.
 ///
 /// Fails with the first token with which no front of a module goes on; where a node of the tree has more than 100 others
 /// above it; and with `NoMemory` where memory runs out. The Python reference's "Full Grammar specification", cut to the
 /// profile, is the grammar.
-pub fn recognise(alloc: Global, tokens: &[Token], names: &Names) -> Result<u32, ParseRefusal>
-    ensures recognised { IfOk result (IsRecognised (plain_tokens names.now tokens.now)) }
+pub fn recognise(alloc: Global, tokens: &[Token], names: &Names) -> Result<(), ParseRefusal>
+    ensures recognised { OnOk result (IsRecognised (plain_tokens names.now tokens.now)) }
     ensures refused { IfErr result (IsParseRefused names.now tokens.now) }
 {
-    match measure(alloc, tokens, names)? {
-        Measured::Stuck(rest) => {
+    match find_depth(alloc, tokens, names)? {
+        Depth::Shallow => Ok(()),
+        Depth::TooDeep(place) => Err(ParseRefusal::TooDeep(place)),
+        Depth::Stuck(rest) => {
             let (place, found) = found(alloc, tokens, rest)?;
             Err(ParseRefusal::Unexpected(place, found))
         }
-        Measured::Height(height) if height > MOST_NODES => {
-            Err(ParseRefusal::Outside(BEGINNING, Construct::Unbuilt))
-        }
-        Measured::Height(height) => Ok(height),
     }
 }

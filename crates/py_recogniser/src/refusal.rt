@@ -16,23 +16,15 @@ pub enum Found {
     End,
 }
 
-/// A construct that no module has.
-#[derive(Clone, Copy, Debug, PartialEq, Eq)]
-pub enum Construct {
-    /// It isn't built yet.
-    Unbuilt,
-}
-
 /// Why tokens have no tree that is kept, or that memory ran out.
 #[derive(Debug, Drop, Error)]
 pub enum ParseRefusal {
     /// The first token with which no front of a module goes on. The end has the place of the last token.
     #[error("unexpected token")]
     Unexpected(Place, Found),
-    /// A construct that no module has. A tree in which a node has more than 100 others above it isn't built, which is
-    /// told at the beginning.
-    #[error("construct outside the language")]
-    Outside(Place, Construct),
+    /// The first place by line and column where a node of the tree has more than 100 others above it.
+    #[error("nested too deep")]
+    TooDeep(Place),
     #[error("out of memory")]
     NoMemory,
 }

@@ -23,7 +23,6 @@ use Rattle.py_lexer.specs.declared.refusal.LexRefusal.{LexRefusal}
 use Rattle.py_lexer.specs.declared.refusal.LexRefusal.TheVariants as refusal
 use Rattle.py_table.specs.PlainTokens.{plain_tokens}
 use Rattle.py_recogniser.specs.Refused.{IsFound, IsParseRefused, last_place as last_read}
-use Rattle.py_recogniser.specs.declared.refusal.Construct.{Construct}
 use Rattle.py_recogniser.specs.declared.refusal.Found.{Found}
 use Rattle.py_recogniser.specs.declared.refusal.Found.TheVariants as found
 use Rattle.py_recogniser.specs.declared.refusal.ParseRefusal.TheVariants as parse
@@ -106,12 +105,12 @@ module _ (text : List ℕ) (names : List (List ℕ)) (ts : List TokenRead) (lexe
     ap status_said limit,
   )
 
-  pub fault_too_deep : (p : Place) (c : Construct) (said : FaultSaid) → IsParseRefused names ts (parse.Outside p c) → said.place ≡ p
-      → string_bytes said.said ≡ codes "P2 Outside unbuilt" → said.limit ≡ false → IsFaultOf text said
-  fault_too_deep p c said h place words limit = (
-    TooDeep,
-    record { tokens = text_tokens names ts; lexed = lexed; tree = h.1; spelt = subst (IsModule h.1) (sym seen) h.2; deep = h.3 },
-    ap plain_place place ∙ h.0,
+  pub fault_too_deep : (p : Place) (said : FaultSaid) → IsParseRefused names ts (parse.TooDeep p) → said.place ≡ p
+      → string_bytes said.said ≡ codes "P3 TooDeep" → said.limit ≡ true → IsFaultOf text said
+  fault_too_deep p said h place words limit = (
+    TooDeep (plain_place p),
+    record { tokens = text_tokens names ts; lexed = lexed; tree = h.0; spelt = subst (IsModule h.0) (sym seen) h.1; first = h.2 },
+    ap plain_place place,
     words,
     ap status_said limit,
   )

@@ -1,6 +1,6 @@
 //! Why the text of a module is not translated, as it is said.
 
-ghost use Rattle.std.specs.Prelude.{ℕ, ◌≡◌, ◌<◌, ◌++◌, false, List, [], ◌∷◌, Bool, codes, IfOk, OnOk, string_bytes};
+ghost use Rattle.std.specs.Prelude.{ℕ, ◌≡◌, ◌<◌, ◌++◌, true, false, List, [], ◌∷◌, Bool, codes, IfOk, OnOk, string_bytes};
 ghost use Rattle.std.specs.Fmt.{decimal};
 ghost use Rattle.py_lexer.specs.PlainTokens.{plain_place, plain_kind};
 ghost use Rattle.shed_meaning.specs.TokenText.{hexadecimal, has_character, quote_of, quoted, all_quoted, repr_of, token_text};
@@ -57,6 +57,13 @@ pub(crate) fn unbuilt(alloc: Global, place: Place) -> Result<Fault, NoMemory>
     ensures { IfOk result (λ f. (f.place ≡ place) × (string_bytes f.said ≡ codes "P2 Outside unbuilt") × (f.limit ≡ false)) }
 {
     plain_fault(alloc, place, "P2 Outside unbuilt", false)
+}
+
+/// A node with too many others above it, at a place.
+pub(crate) fn too_deep(alloc: Global, place: Place) -> Result<Fault, NoMemory>
+    ensures { IfOk result (λ f. (f.place ≡ place) × (string_bytes f.said ≡ codes "P3 TooDeep") × (f.limit ≡ true)) }
+{
+    plain_fault(alloc, place, "P3 TooDeep", true)
 }
 
 /// A token that was not expected.

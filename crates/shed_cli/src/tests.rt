@@ -26,8 +26,6 @@ const FILES: [(u64, &str, &str); 5] = [
 const USAGE: &str =
     "usage: shed translate [-l] [-b] [-w] [-o] [-a] [-m FILE] NAME | run [--ticks N] NAME | bulk SEED COUNT\n";
 
-const TOO_DEEP: &str = "main.py:1:1: P2 Outside unbuilt\n";
-
 const TOO_LARGE: &str = "shed: M6 TooLarge main\n";
 
 // Runs the command with words, which spaces part, and gives the number that it ends with.
@@ -371,11 +369,11 @@ fn refuses_texts(rt: HostRuntime) -> Result<(), Fail> {
 // What comes before, how many times a piece, what comes behind, the number that it ends with, and what is said.
 const LIMITS: [(&str, usize, &str, &str, u8, &str); 11] = [
     ("x = ", 99, "-", "1\n", 0, ""),
-    ("x = ", 100, "-", "1\n", 3, TOO_DEEP),
+    ("x = ", 100, "-", "1\n", 5, "main.py:1:105: P3 TooDeep\n"),
     ("x = 1", 99, " + 1", "\n", 0, ""),
-    ("x = 1", 100, " + 1", "\n", 3, TOO_DEEP),
+    ("x = 1", 100, " + 1", "\n", 5, "main.py:1:5: P3 TooDeep\n"),
     ("print(", 98, "-", "1)\n", 0, ""),
-    ("print(", 99, "-", "1)\n", 3, TOO_DEEP),
+    ("print(", 99, "-", "1)\n", 5, "main.py:1:106: P3 TooDeep\n"),
     ("", 1000, "a", " = 1\n", 0, ""),
     (
         "x = 1; ",
@@ -422,7 +420,11 @@ fn nested(rt: &HostRuntime, depth: usize) -> Result<String, Fail> {
 
 #[test]
 fn keeps_the_limit_of_blocks(rt: HostRuntime) -> Result<(), Fail> {
-    for (depth, want, said) in [(20, 0, ""), (99, 0, ""), (100, 3, TOO_DEEP)] {
+    for (depth, want, said) in [
+        (20, 0, ""),
+        (99, 0, ""),
+        (100, 5, "main.py:100:103: P3 TooDeep\n"),
+    ] {
         let text = nested(&rt, depth)?;
         let mut folder = folder_with(&rt, "main.py", text.as_str())?;
         let is_told = ends(&rt, "translate main", &mut folder, want, said)?;

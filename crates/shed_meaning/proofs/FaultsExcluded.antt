@@ -7,6 +7,7 @@ use Rattle.py_syntax.specs.Tree as whole
 use Rattle.py_syntax.specs.Grammar.{IsModule}
 use Rattle.py_syntax.specs.Laws.{IsLongestFront}
 use Rattle.py_syntax.specs.Heights.{IsShallow}
+use Rattle.py_nesting.proofs.ShallowModules.{shallow_law}
 use Rattle.py_syntax.proofs.TableLaws.{one_tree}
 use Rattle.py_meaning.specs.Name.{Name}
 use Rattle.py_meaning.specs.Tree.{Body}
@@ -36,11 +37,11 @@ no_fault text body (BadToken r p) s h = let a = s.read.lexed in let e : Tokens s
 no_fault text body (Unexpected p said) s h =
     let same = same_tokens _ s.read.tokens h.0 s.read.lexed h.1 in
     no_module_at (grammar_tokens h.0) h.2.count s.tree (subst (λ (ts : List TextToken). IsModule s.tree (grammar_tokens ts)) same s.read.spelt) h.2.longest
-no_fault text body TooDeep s h =
+no_fault text body (TooDeep p) s h =
     let same = same_tokens _ s.read.tokens h.tokens s.read.lexed h.lexed in
     let tree : s.tree ≡ h.tree =
     one_tree s.tree h.tree (grammar_tokens h.tokens) (subst (λ (ts : List TextToken). IsModule s.tree (grammar_tokens ts)) same s.read.spelt) h.spelt in
-    h.deep (subst IsShallow tree s.read.shallow)
+    (shallow_law h.tree).0 (subst IsShallow tree s.read.shallow) p h.first.0
 no_fault text body (Unbuilt p) s h =
     let same = same_tokens _ s.read.tokens h.2.tokens s.read.lexed h.2.lexed in
     let tree : s.tree ≡ h.0 =
@@ -55,12 +56,12 @@ pub not_fault : (f : Fault) (k : ℕ) → (k ≡ 3 → ⊥) → (k ≡ 5 → ⊥
 not_fault (BadToken TooLong p) k three five e = five (sym e)
 not_fault (BadToken r p) k three five e = three (sym e)
 not_fault (Unexpected p said) k three five e = three (sym e)
-not_fault TooDeep k three five e = three (sym e)
+not_fault (TooDeep p) k three five e = five (sym e)
 not_fault (Unbuilt p) k three five e = three (sym e)
 
 pub either_fault : (f : Fault) → (fault_status f ≡ 3) ⊎ (fault_status f ≡ 5)
 either_fault (BadToken TooLong p) = inr refl
 either_fault (BadToken r p) = inl refl
 either_fault (Unexpected p said) = inl refl
-either_fault TooDeep = inl refl
+either_fault (TooDeep p) = inr refl
 either_fault (Unbuilt p) = inl refl

@@ -1,5 +1,5 @@
 -- What some runs of the command come to, and what they cannot come to.
-use Rattle.std.proofs.Common.{◌≡◌, ℕ, ◌<◌, ◌≤◌, List, [], ◌∷◌, length, take, drop, Option, Some, None, inl, inr, refl, sym, ap, ◌∙◌, ◌++◌, replicate, subst, codes, lit≤, lit<, true, not-le_of_lt}
+use Rattle.std.proofs.Common.{◌≡◌, ℕ, zero, suc, ◌<◌, ◌≤◌, List, [], ◌∷◌, length, take, drop, Option, Some, None, inl, inr, refl, sym, ap, ◌∙◌, ◌++◌, replicate, subst, codes, lit≤, lit<, true, not-le_of_lt}
 use Rattle.std.specs.Prelude.{option_map}
 use Rattle.std.specs.Fmt.{digits}
 use Rattle.std.specs.FinMap as map
@@ -8,6 +8,8 @@ use Rattle.runs.specs.Number.{W32}
 use Rattle.py_tokens.specs.Token.{Place, BadCharacter, TooLong, Tokens}
 use Rattle.py_tokens.specs.Tokens.{tokens_of_characters, beginning, unmarked}
 use Rattle.py_syntax.specs.Laws.{IsLongestFront}
+use Rattle.py_nesting.specs.Outlines.{Plain, Event, Over, Gather, JoinGroup, Assign}
+use Rattle.py_nesting.proofs.FirstFound.{first_law}
 use Rattle.shed_base.specs.Files.{Files, with_file}
 use Rattle.shed_base.proofs.WrittenFiles.{file_of-with_file, file_of-empty}
 use Rattle.py_meaning.specs.Source.{IsSource, most_bytes, names_of, grammar_tokens}
@@ -169,14 +171,22 @@ text_behind = refused text_behind_text (Unexpected (at 2 3) (codes "\"it's\"")) 
 too_deep_text : List ℕ
 too_deep_text = codes "x = " ++ (replicate 100 45 ++ codes "1\n")
 
-too_deep : Ends words (world (folder too_deep_text) []) (world (folder too_deep_text) (codes "main.py:1:1: P2 Outside unbuilt\n")) 3
+-- how its nodes are put together, the last step first
+abbrev signs : ℕ → ℕ → List Event → List Event
+signs zero column events = events
+signs (suc n) column events = Over Plain (at 1 column) 1 ∷ signs n (suc column) events
+
+abbrev too_deep_steps : List Event
+too_deep_steps = JoinGroup ∷ Over Plain (at 1 1) 2 ∷ signs 100 5 (Over Plain (at 1 105) 0 ∷ Gather 1 ∷ Assign ∷ Over Plain (at 1 1) 0 ∷ Gather 0 ∷ [])
+
+too_deep : Ends words (world (folder too_deep_text) []) (world (folder too_deep_text) (codes "main.py:1:105: P3 TooDeep\n")) 5
 unfolding too_deep_text digits lib.Utf8.encode
-too_deep = refused too_deep_text TooDeep refl (lit≤ tt) (record {
+too_deep = refused too_deep_text (TooDeep (at 1 105)) refl (lit≤ tt) (record {
   tokens = tokens too_deep_text;
   lexed = ascii_tokens too_deep_text refl ∙ refl;
   tree = tree 2000 too_deep_text;
   spelt = spelt_text 2000 too_deep_text refl;
-  deep = λ shallow. not-le_of_lt (lit< tt) shallow;
+  first = first_law too_deep_steps (tree 2000 too_deep_text) refl;
 })
 
 -- print(y), where y is unset

@@ -100,8 +100,8 @@ said_unbuilt : Said (Unbuilt (at 1 7)) (codes "main.py:1:7: P2 Outside unbuilt\n
 unfolding digits
 said_unbuilt = (refl, refl)
 
--- at the beginning
-said_too_deep : Said TooDeep (codes "main.py:1:1: P2 Outside unbuilt\n") 3
+-- nesting that is too deep passes a limit
+said_too_deep : Said (TooDeep (at 1 105)) (codes "main.py:1:105: P3 TooDeep\n") 5
 unfolding digits
 said_too_deep = (refl, refl)
 

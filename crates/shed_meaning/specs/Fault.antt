@@ -7,7 +7,7 @@ use Rattle.py_tokens.specs.Tokens.{tokens_of}
 use Rattle.py_syntax.specs.Tree as whole
 use Rattle.py_syntax.specs.Grammar.{IsModule}
 use Rattle.py_syntax.specs.Laws.{IsLongestFront}
-use Rattle.py_syntax.specs.Heights.{IsShallow}
+use Rattle.py_nesting.specs.TooDeep.{IsFirstTooDeep}
 use Rattle.py_meaning.specs.Name.{Name, text_of}
 use Rattle.py_meaning.specs.Built.{unbuilt, first_place}
 use Rattle.py_meaning.specs.Source.{IsText, grammar_tokens}
@@ -18,8 +18,8 @@ pub data Fault : Type 0 where
   BadToken : (refusal : Refusal) → (place : Place) → Fault
   -- its tokens have no tree: the first with which no front of a module goes on, as it is printed
   Unexpected : (place : Place) → (said : List ℕ) → Fault
-  -- a node of its tree has too many others above it
-  TooDeep : Fault
+  -- the first place by place where a node of its tree has too many others above it
+  TooDeep : (place : Place) → Fault
   -- the first place by place that isn't built
   Unbuilt : (place : Place) → Fault
 
@@ -47,27 +47,29 @@ pub record IsUnexpected (ts : List Token) (p : Place) (said : List ℕ) : Type 0
   pub place : p ≡ place_at ts (drop count ts)
   pub words : said ≡ said_at (drop count ts)
 
-pub record IsTooDeep (text : List ℕ) : Type 0 where
+pub record IsTooDeep (text : List ℕ) (p : Place) : Type 0 where
   pub tokens : List Token
   pub lexed : tokens_of 0 W32 text ≡ Tokens tokens
   pub tree : whole.Body
   pub spelt : IsModule tree (grammar_tokens tokens)
-  pub deep : IsShallow tree → ⊥
+  pub first : IsFirstTooDeep p tree
 
 -- the text has this fault
 abbrev pub HasFault : List ℕ → Fault → Type 0
 HasFault text (BadToken r p) = tokens_of 0 W32 text ≡ Refused r p
 HasFault text (Unexpected p said) = (ts : List Token) × (tokens_of 0 W32 text ≡ Tokens ts) × IsUnexpected ts p said
-HasFault text TooDeep = IsTooDeep text
+HasFault text (TooDeep p) = IsTooDeep text p
 HasFault text (Unbuilt p) = (tree : whole.Body) × (names : List Name) × IsText text tree names × (first_place (unbuilt names [] tree) ≡ Some p)
 
--- a name that is too long passes a limit, and all else is refused
+-- a name that is too long passes a limit, and no other reason of the lexer does
 abbrev pub refusal_status : Refusal → ℕ
 refusal_status TooLong = 5
 refusal_status r = 3
 
+-- nesting that is too deep passes a limit as well
 abbrev pub fault_status : Fault → ℕ
 fault_status (BadToken r p) = refusal_status r
+fault_status (TooDeep p) = 5
 fault_status f = 3
 
 abbrev pub refusal_text : Refusal → List ℕ
@@ -91,13 +93,13 @@ located name p = text_of name ++ (codes ".py:" ++ (decimal p.line ++ (codes ":" 
 abbrev pub fault_place : Fault → Place
 fault_place (BadToken r p) = p
 fault_place (Unexpected p said) = p
-fault_place TooDeep = beginning
+fault_place (TooDeep p) = p
 fault_place (Unbuilt p) = p
 
 abbrev pub fault_said : Fault → List ℕ
 fault_said (BadToken r p) = refusal_text r
 fault_said (Unexpected p said) = codes "P1 Unexpected " ++ said
-fault_said TooDeep = codes "P2 Outside unbuilt"
+fault_said (TooDeep p) = codes "P3 TooDeep"
 fault_said (Unbuilt p) = codes "P2 Outside unbuilt"
 
 abbrev pub fault_text : Name → Fault → List ℕ

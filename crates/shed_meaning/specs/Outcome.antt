@@ -10,7 +10,7 @@ use Rattle.py_meaning.specs.Source.{IsSource, most_bytes}
 use Rattle.cpp_meaning.specs.Tree.{Program as CppProgram}
 use Rattle.cpp_meaning.specs.Text.{File}
 use Rattle.shed_meaning.specs.Words.{reading}
-use Rattle.shed_meaning.specs.Fault.{Fault, BadToken, HasFault, fault_status, fault_text}
+use Rattle.shed_meaning.specs.Fault.{Fault, HasFault, fault_status, fault_text}
 use Rattle.shed_meaning.specs.Headline.{Headline}
 
 -- what the objects of the outside hold, where they tell it, and the faults that they have counted

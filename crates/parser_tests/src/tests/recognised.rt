@@ -35,14 +35,18 @@ fn spelling(alloc: Global, names: &Names, kind: &TokenKind) -> Result<String, Fa
     Ok(spelling)
 }
 
-// What comes of a text: its tree's height, or the first token that fits nowhere with its line and column before it.
+// What comes of a text: that it is a module, where it is nested too deep, or the first token that fits nowhere with its line
+// and column before it.
 fn told(alloc: Global, text: &str) -> Result<String, Fail> {
     let mut names = Names::new(alloc)?;
     let Ok(tokens) = lex(alloc, text.as_bytes(), 0, Width::W32, &mut names) else {
         return Ok(String::from_str(alloc, "no tokens")?);
     };
     let told = match recognise(alloc, tokens.as_slice(), &names) {
-        Ok(height) => format!(in alloc; "height {height}")?,
+        Ok(()) => String::from_str(alloc, "module")?,
+        Err(ParseRefusal::TooDeep(Place { line, column, .. })) => {
+            format!(in alloc; "{line}:{column} too deep")?
+        }
         Err(ParseRefusal::Unexpected(Place { line, column, .. }, Found::Token(kind))) => {
             let spelling = spelling(alloc, &names, &kind)?;
             format!(in alloc; "{line}:{column} {spelling}")?
@@ -50,7 +54,6 @@ fn told(alloc: Global, text: &str) -> Result<String, Fail> {
         Err(ParseRefusal::Unexpected(Place { line, column, .. }, Found::End)) => {
             format!(in alloc; "{line}:{column} END")?
         }
-        Err(ParseRefusal::Outside(_, _)) => String::from_str(alloc, "outside")?,
         Err(ParseRefusal::NoMemory) => String::from_str(alloc, "no memory")?,
     };
     Ok(told)
@@ -70,55 +73,127 @@ fn differences(alloc: Global, rows: &[(&str, &str)]) -> Result<String, Fail> {
 }
 
 #[test]
-fn modules_have_heights(rt: HostRuntime) -> Result<(), Fail> {
+fn modules_are_recognised(rt: HostRuntime) -> Result<(), Fail> {
     let rows = [
-        ("", "height 0"),
-        ("x = 1\n", "height 2"),
-        ("print(x + -2 * x)\n", "height 6"),
-        ("a = b, c = d[1], e.f = (1, 2)\n", "height 4"),
-        ("[a, b] = (c) = [d]\n", "height 3"),
-        ("a.b[1] **= -x ** 2\n", "height 4"),
-        ("f(1, x, y=2, z=3,)\n", "height 3"),
-        ("if a: b\nelif c: d\nelse:\n  e; f\n", "height 4"),
-        ("for (x, y) in z: pass\n", "height 3"),
+        ("", "module"),
+        ("print(x + -2 * x)\n", "module"),
+        ("a = b, c = d[1], e.f = (1, 2)\n", "module"),
+        ("[a, b] = (c) = [d]\n", "module"),
+        ("a.b[1] **= -x ** 2\n", "module"),
+        ("f(1, x, y=2, z=3,)\n", "module"),
+        ("if a: b\nelif c: d\nelse:\n  e; f\n", "module"),
+        ("for (x, y) in z: pass\n", "module"),
         (
             "try:\n  f()\nexcept m.E as e:\n  g()\nexcept:\n  pass\n",
-            "height 4",
+            "module",
         ),
         (
             "def f(x, y=1):\n  return x if y else None\nclass C(m.B):\n  pass\n",
-            "height 4",
+            "module",
         ),
-        ("import a as b, c\nfrom m import x, y as z\n", "height 1"),
+        ("import a as b, c\nfrom m import x, y as z\n", "module"),
         (
             "x = [a for b in c if d for e in f]; y = {1: 2, 3: 4}; z = {5, 6}\n",
-            "height 3",
+            "module",
         ),
-        (
-            "del a.b[1](2)[3]\nassert x, 'no'\nglobal g, h\n",
-            "height 6",
-        ),
+        ("del a.b[1](2)[3]\nassert x, 'no'\nglobal g, h\n", "module"),
         (
             "x = a < b <= c not in d is not e and f or not g\n",
-            "height 5",
+            "module",
         ),
     ];
     assert_eq!(rt; differences(rt.alloc(), &rows)?.as_str(), "");
     Ok(())
 }
 
-// A name below 99 signs and their statement has 100 nodes above it.
+// What comes first, what is repeated before a middle and behind it, what comes last, how many times, and what comes of it.
+const NESTED: [(&str, &str, &str, &str, &str, usize, &str); 39] = [
+    ("x = ", "(", "1", ")", "\n", 99, "module"),
+    ("x = ", "(", "1", ")", "\n", 100, "1:105 too deep"),
+    ("x = ", "[", "1", "]", "\n", 99, "module"),
+    ("x = ", "[", "1", "]", "\n", 100, "1:105 too deep"),
+    ("x = ", "{", "1", "}", "\n", 100, "1:105 too deep"),
+    ("x = ", "{1: ", "1", "}", "\n", 99, "module"),
+    ("x = ", "{1: ", "1", "}", "\n", 100, "1:402 too deep"),
+    ("x = ", "-", "1", "", "\n", 99, "module"),
+    ("x = ", "-", "1", "", "\n", 100, "1:105 too deep"),
+    ("x = ", "not ", "y", "", "\n", 99, "module"),
+    ("x = ", "not ", "y", "", "\n", 100, "1:405 too deep"),
+    ("x = 1", "", "", " + 1", "\n", 99, "module"),
+    ("x = 1", "", "", " + 1", "\n", 100, "1:5 too deep"),
+    ("x = ", "a ** ", "b", "", "\n", 99, "module"),
+    ("x = ", "a ** ", "b", "", "\n", 100, "1:500 too deep"),
+    ("x = a", "", "", "[0]", "\n", 99, "module"),
+    ("x = a", "", "", "[0]", "\n", 100, "1:5 too deep"),
+    ("x = a", "", "", "[:0]", "\n", 100, "1:5 too deep"),
+    ("x = a", "", "", ".b", "\n", 100, "1:5 too deep"),
+    ("x = a", "", "", "()", "\n", 100, "1:5 too deep"),
+    ("x = ", "f(", "1", ")", "\n", 99, "module"),
+    ("x = ", "f(", "1", ")", "\n", 100, "1:203 too deep"),
+    ("x = ", "f(y=", "1", ")", "\n", 100, "1:401 too deep"),
+    ("x = ", "a if b else ", "c", "", "\n", 99, "module"),
+    (
+        "x = ",
+        "a if b else ",
+        "c",
+        "",
+        "\n",
+        100,
+        "1:1193 too deep",
+    ),
+    ("x = ", "(1, ", "1", ")", "\n", 49, "module"),
+    ("x = ", "(1, ", "1", ")", "\n", 50, "1:202 too deep"),
+    ("", "(", "x", ")", " = 1\n", 99, "module"),
+    ("", "(", "x", ")", " = 1\n", 100, "1:101 too deep"),
+    ("", "(", "x, y", ")", " = 1\n", 99, "module"),
+    ("", "[", "x, y", "]", " = 1\n", 100, "1:101 too deep"),
+    ("for ", "(", "x", ")", " in y: pass\n", 99, "module"),
+    (
+        "for ",
+        "(",
+        "x",
+        ")",
+        " in y: pass\n",
+        100,
+        "1:105 too deep",
+    ),
+    ("if a: b\n", "", "", "elif c: d\n", "", 98, "module"),
+    ("if a: b\n", "", "", "elif c: d\n", "", 99, "100:9 too deep"),
+    ("x = a", "", "", " < b", "\n", 1000, "module"),
+    ("x = a", "", "", " or b", "\n", 1000, "module"),
+    ("x = a", "", "", " and b", "\n", 1000, "module"),
+    ("x = 1", "", "", ", 1", "\n", 1000, "module"),
+];
+
+// A node may have 100 others above it.
 #[test]
-fn deep_trees_are_refused(rt: HostRuntime) -> Result<(), Fail> {
+fn deep_modules_are_refused(rt: HostRuntime) -> Result<(), Fail> {
     let alloc = rt.alloc();
-    for (depth, outside) in [(98, false), (99, false), (100, true), (101, true)] {
-        let mut text = String::new(alloc);
-        for _ in 0..depth {
-            text.push_str("-")?;
-        }
-        text.push_str("x\n")?;
+    for (first, before, middle, behind, last, count, want) in NESTED {
+        let before = before.repeat(alloc, count)?;
+        let behind = behind.repeat(alloc, count)?;
+        let text = format!(in alloc; "{first}{before}{middle}{behind}{last}")?;
         let told = told(alloc, text.as_str())?;
-        assert_eq!(rt; told.as_str() == "outside", outside, "at {depth}");
+        assert_eq!(rt;
+            told.as_str(),
+            want,
+            "{count} times {before:?} and {behind:?}"
+        );
     }
+    Ok(())
+}
+
+// Of some nodes that lie too deep the first by place is told, and not the first that is read whole.
+#[test]
+fn first_deep_place_is_told(rt: HostRuntime) -> Result<(), Fail> {
+    let alloc = rt.alloc();
+    let sum = " + 1".repeat(alloc, 100)?;
+    let signs = "-".repeat(alloc, 100)?;
+    let text = format!(in alloc; "x = {signs}1\ny = 2{sum}\n")?;
+    assert_eq!(rt; told(alloc, text.as_str())?.as_str(), "1:105 too deep");
+    let text = format!(in alloc; "y = 2{sum}\nx = {signs}1\n")?;
+    assert_eq!(rt; told(alloc, text.as_str())?.as_str(), "1:5 too deep");
+    let text = format!(in alloc; "y = f(a, {signs}1){sum}\n")?;
+    assert_eq!(rt; told(alloc, text.as_str())?.as_str(), "1:5 too deep");
     Ok(())
 }

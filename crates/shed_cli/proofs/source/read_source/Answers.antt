@@ -31,15 +31,15 @@ returns-in-Err-Unexpected-clause-fault c =
     fault_unexpected c.args.text.now names ts c.in-Ok.ensures.tokens numbering c.in-Ok.ensures.held c.in-Err-Unexpected.place c.in-Err-Unexpected.found c.in_ok-unexpected-in-Err-Unexpected.field-0
     (subst (IsParseRefused names ts) c.in-Err-Unexpected.field-0-is refused) said.0 said.1 said.2
 
-pub returns-in-Err-Outside-clause-fault : goal.returns-in-Err-Outside-clause-fault
-returns-in-Err-Outside-clause-fault c =
+pub returns-in-Err-TooDeep-clause-fault : goal.returns-in-Err-TooDeep-clause-fault
+returns-in-Err-TooDeep-clause-fault c =
     let names = c.lex.new.names in
     let ts = c.in-Ok.tokens.items in
     let numbering = c.in-Ok.ensures.numbered ∙ ap (λ first. with_texts first (names_in (text_tokens names ts))) c.in_ok-names.ensures.texts in
-    let refused = subst (λ us. IsParseRefused names us c.in-Err-Outside.field-0) c.deref.ensures.value c.in-Err-Outside.ensures.refused in
-    let said = c.in_ok-unbuilt-in-Err-Outside.ensures in
-    fault_too_deep c.args.text.now names ts c.in-Ok.ensures.tokens numbering c.in-Ok.ensures.held c.in-Err-Outside.place c.in-Err-Outside.field-0-1 c.in_ok-unbuilt-in-Err-Outside.field-0
-    (subst (IsParseRefused names ts) c.in-Err-Outside.field-0-is refused) said.0 said.1 said.2
+    let refused = subst (λ us. IsParseRefused names us c.in-Err-TooDeep.field-0) c.deref.ensures.value c.in-Err-TooDeep.ensures.refused in
+    let said = c.in_ok-too_deep-in-Err-TooDeep.ensures in
+    fault_too_deep c.args.text.now names ts c.in-Ok.ensures.tokens numbering c.in-Ok.ensures.held c.in-Err-TooDeep.place c.in_ok-too_deep-in-Err-TooDeep.field-0
+    (subst (IsParseRefused names ts) c.in-Err-TooDeep.field-0-is refused) said.0 said.1 said.2
 
 pub returns-in-Ok-2-clause-source : goal.returns-in-Ok-2-clause-source
 returns-in-Ok-2-clause-source c =

@@ -1,0 +1,4 @@
+mod Stacks
+mod Demands
+mod NestStands
+mod DepthFound

@@ -1,0 +1,7 @@
+use Rattle.std.proofs.Common.{sym, ap}
+use Rattle.py_depth.specs.Asked.{targets_last}
+use Rattle.py_depth.proofs.Stacks.{entries_of-none}
+use Rattle.py_depth.proofs.depth.are_targets_last.Goals as goal
+
+pub returns-in-None : goal.returns-in-None
+returns-in-None c = sym (ap targets_last (entries_of-none _ c.in-None.ensures.cases))

@@ -1,0 +1,5 @@
+pub mod PlainEntries
+pub mod Nests
+pub mod Asked
+pub mod PlainDemands
+pub mod Found
