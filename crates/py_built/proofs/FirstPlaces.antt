@@ -1,7 +1,8 @@
 -- The first of some places and others is the earlier of both firsts.
 use Rattle.std.proofs.Common.{◌≡◌, Bool, true, false, List, [], ◌∷◌, ◌++◌, refl, sym, ap, ◌∙◌, Option, Some, None, if◌then◌else◌, arith}
 use Rattle.py_tokens.specs.Token.{Place}
-use Rattle.py_meaning.specs.Built.{is_before, earlier, first_place}
+use Rattle.py_tokens.specs.Places.{is_before}
+use Rattle.py_meaning.specs.Built.{earlier, first_place}
 use Rattle.py_built.specs.First.{earliest}
 
 -- places are in an order

@@ -17,15 +17,9 @@ use crate::names::{bind, has, variable};
 use crate::operators::{build_binary, build_comparison};
 use indexmap::IndexSet;
 use py_ast::{ComparisonOperator, Expr, Stmt, UnaryOperator};
+use py_lexer::is_before;
 use shed_base::{Name, Names, Place};
 use std::alloc::{AllocError, Global};
-
-// By line, and then by column.
-fn is_before(place: Place, other: Place) -> bool
-    ensures { result ≡ built.is_before (plain_place place) (plain_place other) }
-{
-    place.line < other.line || (place.line == other.line && place.column < other.column)
-}
 
 // The earlier of two places; the first of them where both are one.
 fn earliest(place: Option<Place>, other: Option<Place>) -> Option<Place>

@@ -1,15 +1,13 @@
 -- Entries and events stand for parts.
 use Rattle.std.proofs.Common.{◌≡◌, Bool, List, [], ◌∷◌, ◌++◌, map, Option, Some, None, refl, sym, ap, ◌∙◌}
-use Rattle.py_syntax.specs.Build.{PExpr, Parts, Action, act, are_targets_last, is_target_last, is_name_last}
-use Rattle.py_syntax.specs.Tree.{EName}
-use Rattle.py_syntax.specs.Measures.{measure, measured_targets_last, measured_target_last}
-use Rattle.py_syntax.proofs.MeasuredRuns as measured
+use Rattle.py_syntax.specs.Build.{Parts, Action, act, are_targets_last, is_target_last, is_name_last}
+use Rattle.py_nesting.proofs.FormsAgree.{targets_of_entries, target_of_entries, name_of_entries}
 use Rattle.py_nesting.specs.Outlines.{Event, after, built}
 use Rattle.py_nesting.specs.Shapes as shapes
 use Rattle.py_nesting.specs.Shapes.{Entry, outlines_of}
 use Rattle.py_nesting.specs.Effects.{Effect, effect, effect_of, after_all}
 use Rattle.py_nesting.proofs.EffectsKept.{effects_kept}
-use Rattle.py_depth.specs.Asked.{targets_last, target_last, name_last}
+use Rattle.py_nesting.specs.Asked.{targets_last, target_last, name_last}
 use Rattle.py_depth.specs.Nests.{onto, IsAfter}
 use Rattle.py_depth.specs.PlainEntries.{entries_of, events_of}
 use Rattle.py_depth.specs.declared.nest.Nest.{Nest}
@@ -36,23 +34,11 @@ acted a v old new h s =
     keeps a v (entries_of old.entries.items) _ (events_of old.events.items) _ (effect_of a (shapes.entries_of v)) refl
     (ap (λ (es : List Entry). onto (effect_of a es) (events_of old.events.items)) (sym s.0) ∙ h) s.1
 
-targets_of_entries : (v : Parts) → measured_targets_last (map measure v) ≡ targets_last (shapes.entries_of v)
-targets_of_entries (PExpr e ∷ v) = refl
-targets_of_entries v = refl
-
-target_of_entries : (v : Parts) → measured_target_last (map measure v) ≡ target_last (shapes.entries_of v)
-target_of_entries (PExpr e ∷ v) = refl
-target_of_entries v = refl
-
-name_of_entries : (v : Parts) → is_name_last v ≡ name_last (shapes.entries_of v)
-name_of_entries (PExpr (EName p x) ∷ v) = refl
-name_of_entries v = refl
-
 pub targets_asked : (v : Parts) (es : List Entry) (b : Bool) → es ≡ shapes.entries_of v → b ≡ targets_last es → b ≡ are_targets_last v
-targets_asked v es b h e = e ∙ ap targets_last h ∙ sym (measured.targets_asked v ∙ targets_of_entries v)
+targets_asked v es b h e = e ∙ ap targets_last h ∙ sym (targets_of_entries v)
 
 pub target_asked : (v : Parts) (es : List Entry) (b : Bool) → es ≡ shapes.entries_of v → b ≡ target_last es → b ≡ is_target_last v
-target_asked v es b h e = e ∙ ap target_last h ∙ sym (measured.target_asked v ∙ target_of_entries v)
+target_asked v es b h e = e ∙ ap target_last h ∙ sym (target_of_entries v)
 
 pub name_asked : (v : Parts) (es : List Entry) (b : Bool) → es ≡ shapes.entries_of v → b ≡ name_last es → b ≡ is_name_last v
 name_asked v es b h e = e ∙ ap name_last h ∙ sym (name_of_entries v)

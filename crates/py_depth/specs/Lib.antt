@@ -1,5 +1,4 @@
 pub mod PlainEntries
 pub mod Nests
-pub mod Asked
 pub mod PlainDemands
 pub mod Found

@@ -1,6 +1,6 @@
 -- What the code keeps of parts, in plain words. Its stacks have the last at the end.
 use Rattle.std.specs.Prelude.{List, map, reverse}
-use Rattle.py_syntax.specs.Measures as form_of
+use Rattle.py_nesting.specs.Forms as form_of
 use Rattle.py_lexer.specs.PlainTokens.{plain_place}
 use Rattle.py_nesting.specs.Shapes as meaning
 use Rattle.py_nesting.specs.Outlines as outline

@@ -1,11 +1,11 @@
 //! Where a module is nested too deep.
 
 ghost use Rattle.std.specs.Prelude.{ℕ, ◌≡◌, List, Some, [], ◌∷◌, IfOk, OnOk};
-ghost use Rattle.py_syntax.specs.Measures.{token_form as form_of_token};
+ghost use Rattle.py_nesting.specs.Forms.{token_form as form_of_token};
 ghost use Rattle.py_table.specs.PlainTokens.{plain_token, plain_tokens};
 ghost use Rattle.py_nesting.specs.Outlines.{built};
 ghost use Rattle.py_nesting.specs.Shapes.{outlines_of, entries_of as entries_of_parts};
-ghost use Rattle.py_depth.specs.Asked.{targets_last, target_last, name_last};
+ghost use Rattle.py_nesting.specs.Asked.{targets_last, target_last, name_last};
 ghost use Rattle.py_depth.specs.Found.{IsFound};
 ghost use Rattle.py_depth.specs.PlainEntries.{plain_token_form, entries_of, events_of};
 

@@ -1,7 +1,7 @@
 //! The entries of the parts that stand on a stack, and how their nodes were put together.
 
 ghost use Rattle.std.specs.Prelude.{◌≡◌, false, ◌∷◌, IfOk, OnOk};
-ghost use Rattle.py_syntax.specs.Measures.{NameToken};
+ghost use Rattle.py_nesting.specs.Forms.{NameToken};
 ghost use Rattle.py_lexer.specs.PlainTokens.{plain_place};
 ghost use Rattle.py_nesting.specs.Shapes.{entry, nowhere, TokenShape, ExprShape, SignShape, LoopShape, LoopTargetShape, TargetsShape, ClassShape, StmtShape, BodyShape};
 ghost use Rattle.py_depth.specs.PlainEntries.{plain_token_form, plain_form, plain_loop_target_form, plain_class_name_form, plain_stmt_form, plain_shape, plain_event, entries_of, events_of};

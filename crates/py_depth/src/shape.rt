@@ -1,7 +1,7 @@
 //! What is kept of parts: what form they have, and where they begin.
 
 ghost use Rattle.std.specs.Prelude.{◌≡◌};
-ghost use Rattle.py_syntax.specs.Measures.{is_target as is_form_of_target, are_targets as is_form_of_targets};
+ghost use Rattle.py_nesting.specs.Forms.{is_target as is_form_of_target, are_targets as is_form_of_targets};
 ghost use Rattle.py_depth.specs.PlainEntries.{plain_form};
 
 use shed_base::Place;

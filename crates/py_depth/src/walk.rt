@@ -2,13 +2,13 @@
 
 ghost use Rattle.std.specs.Prelude.{◌≡◌, List, suc, IfOk, OnOk};
 ghost use Rattle.py_lexer.specs.PlainTokens.{plain_place};
-ghost use Rattle.py_nesting.specs.TooDeep as meaning;
 ghost use Rattle.py_nesting.specs.Walk as walking;
 ghost use Rattle.py_nesting.specs.First as first_of;
 ghost use Rattle.py_depth.specs.PlainEntries.{plain_label, plain_event, events_of};
 ghost use Rattle.py_depth.specs.PlainDemands.{plain_demand, demands_of, plain_first};
 
 use crate::event::{Event, Label};
+use py_lexer::is_before;
 use shed_base::Place;
 use std::alloc::{AllocError, Global};
 
@@ -107,12 +107,6 @@ fn comes(label: Label, demand: Demand) -> Option<u32>
         },
         Demand::Nothing | Demand::Inside(_) | Demand::InsideAssigned(_) => None,
     }
-}
-
-fn is_before(place: Place, other: Place) -> bool
-    ensures { result ≡ meaning.is_before (plain_place place) (plain_place other) }
-{
-    place.line < other.line || (place.line == other.line && place.column < other.column)
 }
 
 /// Of the places that lie too deep the first, with one more node that has so many above it, if it is one.

@@ -13,11 +13,13 @@ mod literal;
 mod name;
 mod number;
 mod operator;
+mod place;
 pub mod refusal;
 mod space;
 pub mod token;
 
 pub use lexer::lex;
+pub use place::is_before;
 
 #[cfg(test)]
 mod tests;

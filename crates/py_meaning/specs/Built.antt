@@ -1,11 +1,12 @@
 -- The language that is built today, as forms of the tree: assignments of whole numbers to names, `print` of one, `if` and
 -- `while` with one comparison; sums, differences, products and negatives of numbers and names. A module of these forms is a
 -- body of Tree.antt, in which names are texts; all else is unbuilt, at the first place of a node that is.
-use Rattle.std.specs.Prelude.{◌≡◌, ℕ, Bool, true, false, not, ◌&&◌, ◌||◌, ◌==◌, nat_lt, if◌then◌else◌, List, [], ◌∷◌, ◌++◌, get_or, codes, Option, Some, None, ◌↔◌}
+use Rattle.std.specs.Prelude.{◌≡◌, ℕ, Bool, true, false, not, ◌&&◌, nat_lt, if◌then◌else◌, List, [], ◌∷◌, ◌++◌, get_or, codes, Option, Some, None, ◌↔◌}
 use Rattle.std.specs.Str.{bytes_eq}
 use Rattle.std.specs.List.{list_all}
 use Rattle.std.specs.Option.{option_map}
 use Rattle.py_tokens.specs.Token.{Place}
+use Rattle.py_tokens.specs.Places.{is_before}
 use Rattle.py_syntax.specs.Tree as whole
 use Rattle.py_meaning.specs.Name.{Name}
 use Rattle.py_meaning.specs.Rules.{has_name, are_reads_sure}
@@ -227,10 +228,6 @@ sure_behind texts s sure = sure
 abbrev pub unbuilt : List Name → List Name → whole.Body → List Place
 unbuilt texts sure whole.no_stmts = []
 unbuilt texts sure (whole.more_stmts s body) = unbuilt_stmt texts sure s ++ unbuilt texts (sure_behind texts s sure) body
-
--- by line, and then by column
-abbrev pub is_before : Place → Place → Bool
-is_before p q = nat_lt p.line q.line || ((p.line == q.line) && nat_lt p.column q.column)
 
 abbrev pub earlier : Place → Option Place → Place
 earlier p None = p

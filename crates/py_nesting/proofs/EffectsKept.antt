@@ -5,8 +5,8 @@ use Rattle.py_syntax.specs.Token.{Token, At, TName, TNumber, TText}
 use Rattle.py_syntax.specs.Tree.{NameAt, UnaryOperator, BinaryOperator, ComparisonOperator, LoopTarget, LoopName, LoopNames, Expr, EName, ENumber, EText, EParenthesis, ETuple, EList, EListComprehension, EDict, EAttribute, ECall, ESubscript, ESlice, ECompare, EAnd, EOr, Exprs, no_exprs, more_exprs, no_expr, an_expr, Pairs, no_pairs, more_pairs, Links, no_links, more_links, Keywords, no_keywords, more_keywords, Loops, no_loops, more_loops, Target, TargetName, TargetAttribute, TargetSubscript, Targets, OneTarget, SomeTargets, ParenthesisTargets, BracketTargets, Imported, BareClass, Caught, Everything, Exceptions, Stmt, SAugmented, SGlobal, STry, SDef, SClass, SImport, SFromImport, Body, no_stmts, more_stmts, Handlers, no_handlers, more_handlers}
 use Rattle.py_syntax.specs.Tree.{Parameter, MaybeExpr}
 use Rattle.py_syntax.specs.Build.{PToken, PExpr, PSign, PLoop, PLoopTarget, PTargets, PClass, PStmt, PBody, Parts, with_expr, with_pair, with_link, with_keyword, with_loop, with_stmt, with_handler, with_imported, start_of, target_of, one_more, target_list_of, in_brackets, some_targets, targets_of, targets_found, more_targets_found, target_found, Drop, MakeLeaf, MakeTrue, MakeFalse, MakeNone, MakeEmptyTuple, MakeParenthesis, MakeTuple, AddItem, MakeEmptyList, MakeListOfOne, MakeList, BeginComprehension, BeginLoop, AddCondition, AddLoop, MakeEmptyDict, BeginDict, AddPair, MakeSetOfOne, MakeSet, MakeAttribute, BeginCall, AddArgument, AddKeyword, MakeSubscript, MakeSliceFrom, MakeSlice, AddUpper, MakeUnary, MakeBinary, MakeSign, MakeLongSign, MakeCompare, AddLink, MakeNot, MakeAnd, AddAnd, MakeOr, AddOr, MakeConditional, MakeLoopName, MakeLoopNames, AddLoopName, MakeLoopParenthesis, BeginBody, AddStmt, MakeExprStmt, MakeTargets, AddTargets, MakeAssign, MakeAugmented, MakePass, MakeBreak, MakeContinue, MakeReturn, MakeReturnValue, MakeRaise, MakeYield, BeginGlobal, AddGlobal, MakeAssert, MakeAssertMessage, MakeDelete, MakeIf, MakeElif, MakeElse, MakeWhile, MakeFor, BeginTry, CatchAll, Catch, CatchAs, MakeClassName, MakeClassWithin, BeginDef, AddParameter, AddDefault, EndDef, BeginClass, AddBase, EndClass, BeginImport, BeginFrom, AddImported, AddImportedAs, drop, make_leaf, make_true, make_false, make_none, make_empty_tuple, make_parenthesis, make_tuple, add_item, make_empty_list, make_list_of_one, make_list, begin_comprehension, begin_loop, add_condition, add_loop, make_empty_dict, begin_dict, add_pair, make_set_of_one, make_set, make_attribute, begin_call, add_argument, add_keyword, make_subscript, make_slice_from, make_slice, add_upper, make_unary, make_binary, make_sign, make_long_sign, make_compare, add_link, make_not, make_and, add_and, make_or, add_or, make_conditional, make_loop_name, make_loop_names, add_loop_name, make_loop_parenthesis, begin_body, add_stmt, make_expr_stmt, make_targets, add_targets, make_assign, make_augmented, make_pass, make_break, make_continue, make_return, make_return_value, make_raise, make_yield, begin_global, add_global, make_assert, make_assert_message, make_delete, make_if, make_elif, make_else, make_while, make_for, begin_try, catch_all, catch, catch_as, make_class_name, make_class_within, begin_def, add_parameter, add_default, end_def, begin_class, add_base, end_class, begin_import, begin_from, add_imported, add_imported_as}
-use Rattle.py_syntax.specs.Measures.{NameForm, TargetForm, SubscriptForm, TupleForm, BracketForm, ComprehensionForm, DictForm, CallForm, SliceForm, CompareForm, AndForm, OrForm, OtherForm, OneName, SomeNames, NamesInBrackets, BareName, DottedName, GlobalStmt, TryStmt, DefStmt, ClassStmt, OtherStmt, expr_form, stmt_form, is_target, are_targets, items_are_targets}
-use Rattle.py_syntax.proofs.MeasuresAgree.{IsTargetSo, AreSo, target_formed, targets_formed}
+use Rattle.py_nesting.specs.Forms.{NameForm, TargetForm, SubscriptForm, TupleForm, BracketForm, ComprehensionForm, DictForm, CallForm, SliceForm, CompareForm, AndForm, OrForm, OtherForm, OneName, SomeNames, NamesInBrackets, BareName, DottedName, GlobalStmt, TryStmt, DefStmt, ClassStmt, OtherStmt, expr_form, stmt_form, is_target, are_targets, items_are_targets}
+use Rattle.py_nesting.proofs.FormsAgree.{IsTargetSo, AreSo, target_formed, targets_formed}
 use Rattle.py_nesting.specs.Outlines.{Plain, Bracket, Tuple, Outline, Node, Group, Outlines, none_below, more_below, as_targets, with_last, Event, Over, Gather, Join, JoinGroup, Loosen, Assign, Forget, after}
 use Rattle.py_nesting.specs.TreeOutlines.{leaf, one_below, two_below, names_outlines, loop_target_outline, expr_outline, exprs_outlines, maybe_outlines, pairs_outlines, links_outlines, keywords_outlines, loops_outlines, target_outline, target_list_outlines, targets_outline, assigned_outlines, parameters_outlines, stmt_outline, stmts_outlines, definition_outlines, body_outline, handlers_outlines}
 use Rattle.py_nesting.specs.Shapes.{ExprShape, SignShape, LoopShape, LoopTargetShape, TargetsShape, ClassShape, StmtShape, BodyShape, is_full, stmt_filled, is_filled, nowhere, Entry, entry, entries_of, outlines_of}
@@ -530,7 +530,7 @@ targets_kept : (c : Token) (e : Expr) (v : Parts) (o : Option Targets) (r : Effe
     → Keeps (PToken c ∷ PExpr e ∷ v) (targets_found e o v) r
 targets_kept c e v None r q so h = passed (are_targets (expr_form e)) (effect (entry TargetsShape (start_of e) ∷ entries_of v) (Gather 1 ∷ Assign ∷ [])) r so h
 targets_kept c e v (Some t) r q so h =
-    let k : Some (effect (entry TargetsShape (start_of e) ∷ entries_of v) (Gather 1 ∷ Assign ∷ [])) ≡ Some r = chosen (are_targets (expr_form e)) _ r so.0 h in
+    let k : Some (effect (entry TargetsShape (start_of e) ∷ entries_of v) (Gather 1 ∷ Assign ∷ [])) ≡ Some r = chosen (are_targets (expr_form e)) _ r so h in
     known (PToken c ∷ PExpr e ∷ v) (PTargets (start_of e) (t ∷ []) ∷ v) (entry TargetsShape (start_of e) ∷ entries_of v) (Gather 1 ∷ Assign ∷ []) r k refl (ap (λ hole. Some (Group (one_below hole) ∷ outlines_of v)) (targets_outlined e t q))
 
 keeps_make_targets : (v : Parts) (r : Effect) → effect_make_targets (entries_of v) ≡ Some r → Keeps v (make_targets v) r
@@ -542,7 +542,7 @@ more_targets_kept : (c : Token) (e : Expr) (p : Place) (ts : List Targets) (v : 
     → Keeps (PToken c ∷ PExpr e ∷ PTargets p ts ∷ v) (more_targets_found e p ts o v) r
 more_targets_kept c e p ts v None r q so h = passed (are_targets (expr_form e)) (effect (entry TargetsShape p ∷ entries_of v) (JoinGroup ∷ Assign ∷ [])) r so h
 more_targets_kept c e p ts v (Some t) r q so h =
-    let k : Some (effect (entry TargetsShape p ∷ entries_of v) (JoinGroup ∷ Assign ∷ [])) ≡ Some r = chosen (are_targets (expr_form e)) _ r so.0 h in
+    let k : Some (effect (entry TargetsShape p ∷ entries_of v) (JoinGroup ∷ Assign ∷ [])) ≡ Some r = chosen (are_targets (expr_form e)) _ r so h in
     known (PToken c ∷ PExpr e ∷ PTargets p ts ∷ v) (PTargets p (ts ++ t ∷ []) ∷ v) (entry TargetsShape p ∷ entries_of v) (JoinGroup ∷ Assign ∷ []) r k refl
     (ap (λ hole. Some (Group (with_last (assigned_outlines ts) hole) ∷ outlines_of v)) (targets_outlined e t q)
     ∙ ap (λ hole. Some (Group hole ∷ outlines_of v)) (assigned_last ts t))
@@ -556,7 +556,7 @@ target_kept : (o : BinaryOperator) (c : Token) (a e : Expr) (v : Parts) (t : Opt
     → Keeps (PExpr e ∷ PToken c ∷ PExpr a ∷ v) (target_found o a e t v) r
 target_kept o c a e v None r q so h = passed (is_target (expr_form a)) (effect (entry (StmtShape OtherStmt false) nowhere ∷ entries_of v) (Over Plain (start_of a) 2 ∷ [])) r so h
 target_kept o c a e v (Some t) r q so h =
-    let k : Some (effect (entry (StmtShape OtherStmt false) nowhere ∷ entries_of v) (Over Plain (start_of a) 2 ∷ [])) ≡ Some r = chosen (is_target (expr_form a)) _ r so.0 h in
+    let k : Some (effect (entry (StmtShape OtherStmt false) nowhere ∷ entries_of v) (Over Plain (start_of a) 2 ∷ [])) ≡ Some r = chosen (is_target (expr_form a)) _ r so h in
     known (PExpr e ∷ PToken c ∷ PExpr a ∷ v) (PStmt (SAugmented (start_of a) o t e) ∷ v) (entry (StmtShape OtherStmt false) nowhere ∷ entries_of v) (Over Plain (start_of a) 2 ∷ []) r k refl (ap (λ hole. Some (Node Plain (start_of a) (two_below hole (expr_outline e)) ∷ outlines_of v)) (sym (target_outlined a t q)))
 
 keeps_make_augmented : (o : BinaryOperator) (v : Parts) (r : Effect) → effect_make_augmented (entries_of v) ≡ Some r → Keeps v (make_augmented o v) r

@@ -1,10 +1,11 @@
 -- The first place that is kept on the way is the first of all that lie too deep.
 use Rattle.std.proofs.Common.{◌≡◌, ℕ, zero, suc, ◌<◌, ◌≤◌, max, Bool, true, false, nat_lt, if◌then◌else◌, List, [], ◌∷◌, Option, Some, None, ◌⊎◌, inl, inr, refl, sym, ◌∙◌, subst, arith}
 use Rattle.py_tokens.specs.Token.{Place}
+use Rattle.py_tokens.specs.Places.{is_before}
 use Rattle.py_syntax.specs.Heights.{most_ancestors}
 use Rattle.py_syntax.specs.Tree.{Body}
 use Rattle.py_nesting.specs.Depths.{here, body_depth}
-use Rattle.py_nesting.specs.TooDeep.{same_place, is_before, IsTooDeepAt}
+use Rattle.py_nesting.specs.TooDeep.{same_place, IsTooDeepAt}
 use Rattle.py_nesting.specs.Outlines.{Event, outline_depth, built}
 use Rattle.py_nesting.specs.TreeOutlines.{body_outline}
 use Rattle.py_nesting.specs.Walk.{Whole, Met, raise, walk, met_depth}

@@ -1,7 +1,7 @@
 -- What each action does to entries, and how it puts outlines together. Where what it takes is not there, it does nothing.
 use Rattle.std.specs.Prelude.{◌≡◌, true, false, ◌&&◌, if◌then◌else◌, List, [], ◌∷◌, Option, Some, None}
 use Rattle.py_syntax.specs.Build.{Parts, act, Action, Drop, MakeLeaf, MakeTrue, MakeFalse, MakeNone, MakeEmptyTuple, MakeParenthesis, MakeTuple, AddItem, MakeEmptyList, MakeListOfOne, MakeList, BeginComprehension, BeginLoop, AddCondition, AddLoop, MakeEmptyDict, BeginDict, AddPair, MakeSetOfOne, MakeSet, MakeAttribute, BeginCall, AddArgument, AddKeyword, MakeSubscript, MakeSliceFrom, MakeSlice, AddUpper, MakeUnary, MakeBinary, MakeSign, MakeLongSign, MakeCompare, AddLink, MakeNot, MakeAnd, AddAnd, MakeOr, AddOr, MakeConditional, MakeLoopName, MakeLoopNames, AddLoopName, MakeLoopParenthesis, BeginBody, AddStmt, MakeExprStmt, MakeTargets, AddTargets, MakeAssign, MakeAugmented, MakePass, MakeBreak, MakeContinue, MakeReturn, MakeReturnValue, MakeRaise, MakeYield, BeginGlobal, AddGlobal, MakeAssert, MakeAssertMessage, MakeDelete, MakeIf, MakeElif, MakeElse, MakeWhile, MakeFor, BeginTry, CatchAll, Catch, CatchAs, MakeClassName, MakeClassWithin, BeginDef, AddParameter, AddDefault, EndDef, BeginClass, AddBase, EndClass, BeginImport, BeginFrom, AddImported, AddImportedAs}
-use Rattle.py_syntax.specs.Measures.{NameToken, LiteralToken, NameForm, TargetForm, SubscriptForm, TupleForm, BracketForm, ComprehensionForm, DictForm, CallForm, SliceForm, CompareForm, ExprForm, AndForm, OrForm, OtherForm, OneName, SomeNames, NamesInBrackets, BareName, DottedName, GlobalStmt, TryStmt, DefStmt, ClassStmt, OtherStmt, is_target, are_targets}
+use Rattle.py_nesting.specs.Forms.{NameToken, LiteralToken, NameForm, TargetForm, SubscriptForm, TupleForm, BracketForm, ComprehensionForm, DictForm, CallForm, SliceForm, CompareForm, ExprForm, AndForm, OrForm, OtherForm, OneName, SomeNames, NamesInBrackets, BareName, DottedName, GlobalStmt, TryStmt, DefStmt, ClassStmt, OtherStmt, is_target, are_targets}
 use Rattle.py_nesting.specs.Outlines.{Plain, Bracket, Tuple, Outline, Event, Over, Gather, Join, JoinGroup, Loosen, Assign, Forget, after}
 use Rattle.py_nesting.specs.Shapes.{TokenShape, ExprShape, SignShape, LoopShape, LoopTargetShape, TargetsShape, ClassShape, StmtShape, BodyShape, nowhere, Entry, entry, entries_of, outlines_of}
 

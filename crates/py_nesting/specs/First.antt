@@ -1,9 +1,10 @@
 -- Of the nodes that are met, the first by place that has too many others above it.
 use Rattle.std.specs.Prelude.{◌≡◌, ℕ, nat_lt, if◌then◌else◌, List, [], ◌∷◌, Option, Some, None}
 use Rattle.py_tokens.specs.Token.{Place}
+use Rattle.py_tokens.specs.Places.{is_before}
 use Rattle.py_syntax.specs.Tree.{Body}
 use Rattle.py_syntax.specs.Heights.{most_ancestors}
-use Rattle.py_nesting.specs.TooDeep.{is_before, IsTooDeepAt, IsFirstTooDeep}
+use Rattle.py_nesting.specs.TooDeep.{IsTooDeepAt, IsFirstTooDeep}
 use Rattle.py_nesting.specs.Outlines.{Event, built}
 use Rattle.py_nesting.specs.TreeOutlines.{body_outline}
 use Rattle.py_nesting.specs.Walk.{Whole, Met, walk}

@@ -1,8 +1,10 @@
 pub mod Depths
 pub mod TooDeep
+pub mod Forms
 pub mod Outlines
 pub mod TreeOutlines
 pub mod Shapes
+pub mod Asked
 pub mod Effects
 pub mod Walk
 pub mod First

@@ -4,7 +4,7 @@ use Rattle.py_tokens.specs.Token.{Place}
 use Rattle.py_syntax.specs.Token.{Token, At}
 use Rattle.py_syntax.specs.Tree.{LoopTarget, LoopNames, Expr, ETuple, ECall, no_exprs, more_keywords, Stmt, SDef, SClass, Body, no_stmts, more_stmts}
 use Rattle.py_syntax.specs.Build.{Part, PToken, PExpr, PSign, PLoop, PLoopTarget, PTargets, PClass, PStmt, PBody, Parts, start_of}
-use Rattle.py_syntax.specs.Measures.{TokenForm, ExprForm, LoopTargetForm, ClassNameForm, StmtForm, token_form, expr_form, loop_target_form, class_name_form, stmt_form}
+use Rattle.py_nesting.specs.Forms.{TokenForm, ExprForm, LoopTargetForm, ClassNameForm, StmtForm, token_form, expr_form, loop_target_form, class_name_form, stmt_form}
 use Rattle.py_nesting.specs.Outlines.{Outline, Group, more_below, none_below}
 use Rattle.py_nesting.specs.TreeOutlines.{loop_target_outline, expr_outline, exprs_outlines, assigned_outlines, stmt_outline, body_outline}
 

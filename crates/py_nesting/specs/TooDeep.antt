@@ -1,7 +1,8 @@
 -- Where a module is nested too deep.
-use Rattle.std.specs.Prelude.{◌≡◌, suc, ◌<◌, Bool, true, false, ◌&&◌, ◌||◌, ◌==◌, nat_lt, List, ◌++◌, ◌↔◌}
+use Rattle.std.specs.Prelude.{◌≡◌, suc, ◌<◌, Bool, true, false, ◌&&◌, ◌==◌, List, ◌++◌, ◌↔◌}
 use Rattle.std.specs.List.{list_any}
 use Rattle.py_tokens.specs.Token.{Place}
+use Rattle.py_tokens.specs.Places.{is_before}
 use Rattle.py_syntax.specs.Token.{Token, At}
 use Rattle.py_syntax.specs.Tree.{Body}
 use Rattle.py_syntax.specs.Grammar.{IsModule}
@@ -10,10 +11,6 @@ use Rattle.py_nesting.specs.Depths.{body_depth}
 
 abbrev pub same_place : Place → Place → Bool
 same_place p q = (p.«module» == q.«module») && ((p.line == q.line) && (p.column == q.column))
-
--- in the order of the text
-abbrev pub is_before : Place → Place → Bool
-is_before p q = nat_lt p.line q.line || ((p.line == q.line) && nat_lt p.column q.column)
 
 -- some node stands here
 abbrev pub HasNode : Place → Body → Type 0

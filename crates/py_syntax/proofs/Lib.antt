@@ -6,8 +6,6 @@ pub mod KeptSteps
 pub mod KeptOperators
 pub mod KeptCalls
 pub mod KeptAtoms
-pub mod MeasuresAgree
-pub mod MeasuredRuns
 pub mod ChainSteps
 pub mod Starts
 pub mod TargetsSpelt

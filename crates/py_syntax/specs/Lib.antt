@@ -6,5 +6,3 @@ pub mod Build
 pub mod Table
 pub mod Laws
 pub mod Heights
-pub mod Measures
-pub mod MeasuredTable

@@ -1,12 +1,11 @@
 //! The syntax of the whole profile: trees, the grammar that ties them to tokens, and the same grammar as a table.
 //!
 //! `specs/Grammar.antt` says which tokens spell which tree, one case for each form. `specs/Table.antt` is an LL(1) table
-//! with actions that build the tree, and `specs/MeasuredTable.antt` the same table over measures of depth and form. The
-//! functions below have no body: they carry laws, which are proved only where a contract names them.
+//! with actions that build the tree. The functions below have no body: they carry laws, which are proved only where a
+//! contract names them.
 #![tactic(auto)]
 
 ghost use Rattle.py_syntax.specs.Laws.{TableSpells, OneTree, RunBuildsTree, StuckAtLongestFront, TreeIsReached};
-ghost use Rattle.py_syntax.specs.MeasuredTable.{MeasuredRunAgrees};
 
 /// The table derives a tree from just the tokens that spell it.
 pub fn table_spells_what_the_grammar_says()
@@ -31,9 +30,4 @@ pub fn stuck_run_has_read_the_longest_front()
 /// A run of some number of steps comes to each tree.
 pub fn each_tree_is_reached()
     ensures law { TreeIsReached }
-{}
-
-/// A run over measures has the outcome of the run over trees.
-pub fn measured_run_agrees()
-    ensures law { MeasuredRunAgrees }
 {}

@@ -1,10 +1,8 @@
 -- Lines: how they are joined, and their indentation.
-use Rattle.std.proofs.Common.{◌≡◌, ℕ, List, [], ◌∷◌, refl}
+use Rattle.std.proofs.Common.{◌≡◌, [], ◌∷◌, refl}
 use Rattle.std.specs.Prelude.{codes}
-use Rattle.runs.specs.Number.{W32, W64}
-use Rattle.py_tokens.specs.Token.{Place, Kind, TName, TKeyword, TOperator, TNumber, TText, TFloat, TImaginary, TBytes, TFormatted, TNewline, TIndent, TDedent, Token, BadCharacter, BadIndent, MixedTabs, UnclosedText, UnclosedBracket, BadEscape, WideNumber, NonAsciiText, NotNormal, TooLong, Outcome, Tokens, Refused}
-use Rattle.py_tokens.specs.Characters.{Text}
-use Rattle.py_tokens.proofs.Notation.{at, lexed, lexed_wide, named, word, sign, number, text, other, newline, indent, dedent}
+use Rattle.py_tokens.specs.Token.{BadCharacter, BadIndent, MixedTabs, UnclosedBracket, Tokens, Refused}
+use Rattle.py_tokens.proofs.Notation.{at, lexed, named, word, sign, number, text, newline, indent, dedent}
 
 nothing : lexed (codes "") ≡ Tokens (
     [])

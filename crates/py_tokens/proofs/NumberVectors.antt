@@ -1,10 +1,8 @@
 -- Numbers, at their limits and where one ends.
-use Rattle.std.proofs.Common.{◌≡◌, ℕ, List, [], ◌∷◌, refl}
+use Rattle.std.proofs.Common.{◌≡◌, [], ◌∷◌, refl}
 use Rattle.std.specs.Prelude.{codes}
-use Rattle.runs.specs.Number.{W32, W64}
-use Rattle.py_tokens.specs.Token.{Place, Kind, TName, TKeyword, TOperator, TNumber, TText, TFloat, TImaginary, TBytes, TFormatted, TNewline, TIndent, TDedent, Token, BadCharacter, BadIndent, MixedTabs, UnclosedText, UnclosedBracket, BadEscape, WideNumber, NonAsciiText, NotNormal, TooLong, Outcome, Tokens, Refused}
-use Rattle.py_tokens.specs.Characters.{Text}
-use Rattle.py_tokens.proofs.Notation.{at, lexed, lexed_wide, named, word, sign, number, text, other, newline, indent, dedent}
+use Rattle.py_tokens.specs.Token.{TFloat, TImaginary, BadCharacter, WideNumber, Tokens, Refused}
+use Rattle.py_tokens.proofs.Notation.{at, lexed, lexed_wide, named, number, other, newline}
 
 decimal : lexed (codes "0 00 0_0 1_000 2147483647\n") ≡ Tokens (
     number 1 1 0

@@ -1,10 +1,8 @@
 -- Names, keywords, operators, comments and characters that begin no token.
-use Rattle.std.proofs.Common.{◌≡◌, ℕ, List, [], ◌∷◌, refl}
+use Rattle.std.proofs.Common.{◌≡◌, [], ◌∷◌, refl}
 use Rattle.std.specs.Prelude.{codes}
-use Rattle.runs.specs.Number.{W32, W64}
-use Rattle.py_tokens.specs.Token.{Place, Kind, TName, TKeyword, TOperator, TNumber, TText, TFloat, TImaginary, TBytes, TFormatted, TNewline, TIndent, TDedent, Token, BadCharacter, BadIndent, MixedTabs, UnclosedText, UnclosedBracket, BadEscape, WideNumber, NonAsciiText, NotNormal, TooLong, Outcome, Tokens, Refused}
-use Rattle.py_tokens.specs.Characters.{Text}
-use Rattle.py_tokens.proofs.Notation.{at, lexed, lexed_wide, named, word, sign, number, text, other, newline, indent, dedent}
+use Rattle.py_tokens.specs.Token.{BadCharacter, Tokens, Refused}
+use Rattle.py_tokens.proofs.Notation.{at, lexed, named, word, sign, newline}
 
 names : lexed (codes "_x x1 print __name__ If\n") ≡ Tokens (
     named 1 1 (codes "_x")

@@ -1,12 +1,12 @@
 -- What stands at the front of a text: white space, a comment, a line end or a token, each as long as it can be. Places
 -- and lines play no part here.
-use Rattle.std.specs.Prelude.{ℕ, zero, suc, ◌+◌, ◌-◌, ◌*◌, Bool, true, false, not, ◌&&◌, ◌||◌, if◌then◌else◌, ◌==◌, nat_le, nat_lt, List, [], ◌∷◌, ◌++◌, length, take, drop, codes, Option, Some, None, encode_utf8_all}
+use Rattle.std.specs.Prelude.{ℕ, zero, suc, ◌+◌, ◌-◌, Bool, true, false, not, ◌&&◌, ◌||◌, if◌then◌else◌, ◌==◌, nat_le, nat_lt, List, [], ◌∷◌, ◌++◌, length, take, drop, codes, Option, Some, None, encode_utf8_all}
 use Rattle.std.specs.List.{take_while, list_any, list_all}
 use Rattle.std.specs.Str.{bytes_eq}
 use Rattle.runs.specs.Number.{Width, W32, W64}
 use Rattle.unicode_normalization.specs.Forms.{Nfkc, is_in_form}
 use Rattle.py_tokens.specs.Token.{Kind, TName, TKeyword, TOperator, TNumber, TText, TFloat, TImaginary, TBytes, TFormatted, Refusal, BadCharacter, UnclosedText, BadEscape, WideNumber, NonAsciiText, NotNormal, TooLong}
-use Rattle.py_tokens.specs.Characters.{Text, is_digit, is_digit_below, is_hexadecimal, digit_value, is_control, is_quote, begins_name, continues_name, line_end, to_line_end, begins_with, grouped, value_from}
+use Rattle.py_tokens.specs.Characters.{Text, is_digit, is_digit_below, is_hexadecimal, is_control, is_quote, begins_name, continues_name, line_end, to_line_end, begins_with, grouped, value_from}
 
 pub data Lexeme : Type 0 where
   -- a space or a tab

@@ -1,4 +1,5 @@
 pub mod Token
+pub mod Places
 pub mod Characters
 pub mod Lexeme
 pub mod Lines

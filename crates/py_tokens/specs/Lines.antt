@@ -1,11 +1,11 @@
 -- Logical lines: the text cut into what stands one behind another, brackets with their partners, line ends that end a
 -- logical line, and its indentation.
-use Rattle.std.specs.Prelude.{ℕ, zero, suc, ◌+◌, ◌-◌, ◌*◌, ◌/◌, Bool, true, false, not, ◌&&◌, ◌||◌, if◌then◌else◌, ◌==◌, nat_le, nat_lt, List, [], ◌∷◌, ◌++◌, take, drop, codes, Option, Some, None}
+use Rattle.std.specs.Prelude.{ℕ, zero, suc, ◌+◌, ◌-◌, ◌*◌, ◌/◌, Bool, true, false, ◌&&◌, ◌||◌, if◌then◌else◌, ◌==◌, List, [], ◌∷◌, codes, Option, Some, None}
 use Rattle.std.specs.Str.{bytes_eq}
 use Rattle.runs.specs.Number.{Width}
-use Rattle.py_tokens.specs.Token.{Place, Kind, TOperator, Refusal, UnclosedBracket, next_place}
+use Rattle.py_tokens.specs.Token.{Place, TOperator, UnclosedBracket, next_place}
 use Rattle.py_tokens.specs.Characters.{Text}
-use Rattle.py_tokens.specs.Lexeme.{Lexeme, Blank, Nothing, LineEnd, Word, Broken, front_of}
+use Rattle.py_tokens.specs.Lexeme.{Lexeme, Blank, LineEnd, Word, Broken, front_of}
 
 -- where something begins, and the characters that it begins with
 pub record Located : Type 0 where

@@ -1,10 +1,10 @@
 -- The tokens of a text, or the first reason why it has none.
-use Rattle.std.specs.Prelude.{ℕ, zero, suc, ◌+◌, Bool, true, false, not, ◌&&◌, ◌||◌, if◌then◌else◌, ◌==◌, nat_lt, List, [], ◌∷◌, ◌++◌, length, take, Option, Some, None, chars}
+use Rattle.std.specs.Prelude.{ℕ, zero, suc, ◌&&◌, if◌then◌else◌, ◌==◌, nat_lt, List, [], ◌∷◌, ◌++◌, length, take, Option, Some, None, chars}
 use Rattle.std.specs.Str.Lossy.{utf8_valid_len}
 use Rattle.runs.specs.Number.{Width}
-use Rattle.py_tokens.specs.Token.{Place, Kind, TText, TNewline, TIndent, TDedent, Token, Refusal, NotUtf8, BadIndent, MixedTabs, Outcome, Tokens, Refused, place_after}
+use Rattle.py_tokens.specs.Token.{Place, Kind, TText, TNewline, TIndent, TDedent, Token, NotUtf8, BadIndent, MixedTabs, Outcome, Tokens, Refused, place_after}
 use Rattle.py_tokens.specs.Characters.{Text}
-use Rattle.py_tokens.specs.Lexeme.{Lexeme, Blank, Nothing, LineEnd, Word, Broken}
+use Rattle.py_tokens.specs.Lexeme.{Lexeme, Word, Broken}
 use Rattle.py_tokens.specs.Lines.{Located, cut, bracketed, Line, lines_of, Widths, no_width, widths_from, words_of}
 
 abbrev pub token : Place → Kind → Token

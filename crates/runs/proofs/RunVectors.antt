@@ -1,5 +1,5 @@
 -- What the definitions of runs say of a machine that counts down, writes each number and takes a tick for each.
-use Rattle.std.proofs.Common.{◌≡◌, ℕ, zero, suc, List, [], ◌∷◌, ◌++◌, Option, Some, None, refl}
+use Rattle.std.proofs.Common.{◌≡◌, ℕ, zero, suc, List, [], ◌∷◌, ◌++◌, Some, None, refl}
 use Rattle.runs.specs.Run.{Done, GoingOn, Next, Ticks, Ends, Machine, Gives, run_for, ComesTo}
 use Rattle.runs.specs.Moment.{moment_at}
 

@@ -1,5 +1,5 @@
 -- The places of texts in the list of a `Names`.
-use Rattle.std.proofs.Common.{◌≡◌, ℕ, zero, suc, ◌+◌, ◌<◌, ◌≤◌, Bool, true, false, length, get_or, take, Bor, List, [], ◌∷◌, ◌++◌, position, slice_get, Option, None, Some, is_some, Result, Ok, Err, OnOk, ◌⊎◌, inl, inr, arith, refl, sym, ap, ◌∙◌, true≢false}
+use Rattle.std.proofs.Common.{◌≡◌, ℕ, zero, suc, ◌+◌, ◌<◌, ◌≤◌, Bool, true, false, length, get_or, take, Bor, List, [], ◌∷◌, ◌++◌, position, slice_get, Some, is_some, Result, Ok, Err, OnOk, ◌⊎◌, inl, inr, arith, refl, sym, ap, ◌∙◌, true≢false}
 use Rattle.std.specs.Prelude.{◌||◌, codes, if◌then◌else◌, map, string_bytes, String, option_map}
 use Rattle.std.specs.List.{list_any, IsDistinct}
 use Rattle.std.specs.Str.{bytes_eq}

@@ -20,7 +20,7 @@ pub(crate) struct Fault {
     pub(crate) limit: bool,
 }
 
-fn plain_fault(alloc: Global, place: Place, said: &str, limit: bool) -> Result<Fault, NoMemory>
+fn fault_at(alloc: Global, place: Place, said: &str, limit: bool) -> Result<Fault, NoMemory>
     ensures { IfOk result (λ f. (f.place ≡ place) × (string_bytes f.said ≡ said.now) × (f.limit ≡ limit)) }
 {
     Ok(Fault {
@@ -35,19 +35,19 @@ pub(crate) fn bad_token(alloc: Global, refusal: LexRefusal) -> Result<Fault, NoM
     ensures { IfOk result (λ f. IsRefusalSaid refusal (plain_place f.place) (string_bytes f.said) f.limit) }
 {
     match refusal {
-        LexRefusal::NotUtf8(place) => plain_fault(alloc, place, "L1 NotUtf8", false),
-        LexRefusal::BadCharacter(place) => plain_fault(alloc, place, "L2 BadCharacter", false),
-        LexRefusal::BadIndent(place) => plain_fault(alloc, place, "L3 BadIndent", false),
-        LexRefusal::MixedTabs(place) => plain_fault(alloc, place, "L4 MixedTabs", false),
-        LexRefusal::UnclosedText(place) => plain_fault(alloc, place, "L5 UnclosedText", false),
+        LexRefusal::NotUtf8(place) => fault_at(alloc, place, "L1 NotUtf8", false),
+        LexRefusal::BadCharacter(place) => fault_at(alloc, place, "L2 BadCharacter", false),
+        LexRefusal::BadIndent(place) => fault_at(alloc, place, "L3 BadIndent", false),
+        LexRefusal::MixedTabs(place) => fault_at(alloc, place, "L4 MixedTabs", false),
+        LexRefusal::UnclosedText(place) => fault_at(alloc, place, "L5 UnclosedText", false),
         LexRefusal::UnclosedBracket(place) => {
-            plain_fault(alloc, place, "L6 UnclosedBracket", false)
+            fault_at(alloc, place, "L6 UnclosedBracket", false)
         }
-        LexRefusal::BadEscape(place) => plain_fault(alloc, place, "L7 BadEscape", false),
-        LexRefusal::WideNumber(place) => plain_fault(alloc, place, "L8 WideNumber", false),
-        LexRefusal::NonAsciiText(place) => plain_fault(alloc, place, "L9 NonAsciiText", false),
-        LexRefusal::NotNormal(place) => plain_fault(alloc, place, "L10 NotNormal", false),
-        LexRefusal::TooLong(place) => plain_fault(alloc, place, "L11 TooLong", true),
+        LexRefusal::BadEscape(place) => fault_at(alloc, place, "L7 BadEscape", false),
+        LexRefusal::WideNumber(place) => fault_at(alloc, place, "L8 WideNumber", false),
+        LexRefusal::NonAsciiText(place) => fault_at(alloc, place, "L9 NonAsciiText", false),
+        LexRefusal::NotNormal(place) => fault_at(alloc, place, "L10 NotNormal", false),
+        LexRefusal::TooLong(place) => fault_at(alloc, place, "L11 TooLong", true),
         LexRefusal::NoMemory => Err(NoMemory),
     }
 }
@@ -56,14 +56,14 @@ pub(crate) fn bad_token(alloc: Global, refusal: LexRefusal) -> Result<Fault, NoM
 pub(crate) fn unbuilt(alloc: Global, place: Place) -> Result<Fault, NoMemory>
     ensures { IfOk result (λ f. (f.place ≡ place) × (string_bytes f.said ≡ codes "P2 Outside unbuilt") × (f.limit ≡ false)) }
 {
-    plain_fault(alloc, place, "P2 Outside unbuilt", false)
+    fault_at(alloc, place, "P2 Outside unbuilt", false)
 }
 
 /// A node with too many others above it, at a place.
 pub(crate) fn too_deep(alloc: Global, place: Place) -> Result<Fault, NoMemory>
     ensures { IfOk result (λ f. (f.place ≡ place) × (string_bytes f.said ≡ codes "P3 TooDeep") × (f.limit ≡ true)) }
 {
-    plain_fault(alloc, place, "P3 TooDeep", true)
+    fault_at(alloc, place, "P3 TooDeep", true)
 }
 
 /// A token that was not expected.

@@ -1,5 +1,5 @@
 use Rattle.std.proofs.Common.{sym, ap}
-use Rattle.py_depth.specs.Asked.{target_last}
+use Rattle.py_nesting.specs.Asked.{target_last}
 use Rattle.py_depth.proofs.Stacks.{entries_of-none}
 use Rattle.py_depth.proofs.depth.is_target_last.Goals as goal
 

@@ -1,5 +1,5 @@
 use Rattle.std.proofs.Common.{ap, ◌∙◌}
-use Rattle.py_depth.specs.Asked.{targets_last}
+use Rattle.py_nesting.specs.Asked.{targets_last}
 use Rattle.py_depth.specs.PlainEntries.{entries_of}
 use Rattle.py_depth.proofs.NestStands.{targets_asked}
 use Rattle.py_depth.proofs.depth.NestValues.allows.Goals as goal

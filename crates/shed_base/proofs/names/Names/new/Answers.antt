@@ -1,4 +1,4 @@
-use Rattle.std.proofs.Common.{◌≡◌, ◌≤◌, ◌^◌, length, List, [], arith, refl, ap, sym, subst, ◌∙◌, map, string_bytes}
+use Rattle.std.proofs.Common.{◌≤◌, ◌^◌, length, arith, ap, sym, subst, ◌∙◌, map, string_bytes}
 use Rattle.std.proofs.lemmas.List.{take_all}
 use Rattle.shed_base.specs.Names.{special_texts, AreDistinct}
 use Rattle.shed_base.proofs.NamesPlaced.{nothing-distinct, specials_step, special_at}

@@ -1,6 +1,6 @@
 -- What guards ask of the last part, by its entry.
 use Rattle.std.specs.Prelude.{Bool, true, false, List, ◌∷◌}
-use Rattle.py_syntax.specs.Measures.{NameForm, is_target, are_targets}
+use Rattle.py_nesting.specs.Forms.{NameForm, is_target, are_targets}
 use Rattle.py_nesting.specs.Shapes.{Entry, entry, ExprShape}
 
 abbrev pub targets_last : List Entry → Bool

@@ -1,0 +1,5 @@
+mod SubKinds
+mod ActionsFit
+mod RowsFit
+mod TableFits
+mod DerivedFit
