@@ -29,7 +29,7 @@ other_token (suc (suc (suc (suc k)))) h = refl
 other_fits : (k : ℕ) (p : Place) (f : TokenForm) → 4 ≤ k → fits (token_kind k) (entry (TokenShape f) p) ≡ true
 other_fits k p f h = ap (λ (l : Kind). fits l (entry (TokenShape f) p)) (other_token k h)
 
-token_fits_so : (t : Token) → fits (token_kind (kind_of t)) (entry_of (PToken t)) ≡ true
+pub token_fits_so : (t : Token) → fits (token_kind (kind_of t)) (entry_of (PToken t)) ≡ true
 token_fits_so (At p (TName false x)) = refl
 token_fits_so (At p (TName true x)) = refl
 token_fits_so (At p (TNumber n)) = refl

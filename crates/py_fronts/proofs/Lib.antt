@@ -3,3 +3,5 @@ mod ActionsFit
 mod RowsFit
 mod TableFits
 mod DerivedFit
+mod FrontsReached
+mod DepthsGo
