@@ -165,14 +165,33 @@ const NESTED: [(&str, &str, &str, &str, &str, usize, &str); 39] = [
     ("x = 1", "", "", ", 1", "\n", 1000, "module"),
 ];
 
+// A text with something before a middle and something behind it, each so many times.
+fn nested(
+    alloc: Global,
+    first: &str,
+    before: &str,
+    middle: &str,
+    behind: &str,
+    count: usize,
+) -> Result<String, Fail> {
+    let mut text = String::from_str(alloc, first)?;
+    for _ in 0..count {
+        text.push_str(before)?;
+    }
+    text.push_str(middle)?;
+    for _ in 0..count {
+        text.push_str(behind)?;
+    }
+    Ok(text)
+}
+
 // A node may have 100 others above it.
 #[test]
 fn deep_modules_are_refused(rt: HostRuntime) -> Result<(), Fail> {
     let alloc = rt.alloc();
     for (first, before, middle, behind, last, count, want) in NESTED {
-        let before = before.repeat(alloc, count)?;
-        let behind = behind.repeat(alloc, count)?;
-        let text = format!(in alloc; "{first}{before}{middle}{behind}{last}")?;
+        let mut text = nested(alloc, first, before, middle, behind, count)?;
+        text.push_str(last)?;
         let told = told(alloc, text.as_str())?;
         assert_eq!(rt;
             told.as_str(),
