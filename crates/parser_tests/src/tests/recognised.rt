@@ -106,8 +106,11 @@ fn modules_are_recognised(rt: HostRuntime) -> Result<(), Fail> {
     Ok(())
 }
 
-// What comes first, what is repeated before a middle and behind it, what comes last, how many times, and what comes of it.
-const NESTED: [(&str, &str, &str, &str, &str, usize, &str); 39] = [
+// Each row has what comes first, what is repeated before a middle and behind it, what comes last, how many times, and what
+// comes of it.
+
+// Brackets and displays.
+const BRACKETS: [(&str, &str, &str, &str, &str, usize, &str); 7] = [
     ("x = ", "(", "1", ")", "\n", 99, "module"),
     ("x = ", "(", "1", ")", "\n", 100, "1:105 too deep"),
     ("x = ", "[", "1", "]", "\n", 99, "module"),
@@ -115,6 +118,10 @@ const NESTED: [(&str, &str, &str, &str, &str, usize, &str); 39] = [
     ("x = ", "{", "1", "}", "\n", 100, "1:105 too deep"),
     ("x = ", "{1: ", "1", "}", "\n", 99, "module"),
     ("x = ", "{1: ", "1", "}", "\n", 100, "1:402 too deep"),
+];
+
+// Operators.
+const OPERATORS: [(&str, &str, &str, &str, &str, usize, &str); 8] = [
     ("x = ", "-", "1", "", "\n", 99, "module"),
     ("x = ", "-", "1", "", "\n", 100, "1:105 too deep"),
     ("x = ", "not ", "y", "", "\n", 99, "module"),
@@ -123,6 +130,10 @@ const NESTED: [(&str, &str, &str, &str, &str, usize, &str); 39] = [
     ("x = 1", "", "", " + 1", "\n", 100, "1:5 too deep"),
     ("x = ", "a ** ", "b", "", "\n", 99, "module"),
     ("x = ", "a ** ", "b", "", "\n", 100, "1:500 too deep"),
+];
+
+// Subscripts, attributes and calls.
+const PRIMARIES: [(&str, &str, &str, &str, &str, usize, &str); 8] = [
     ("x = a", "", "", "[0]", "\n", 99, "module"),
     ("x = a", "", "", "[0]", "\n", 100, "1:5 too deep"),
     ("x = a", "", "", "[:0]", "\n", 100, "1:5 too deep"),
@@ -131,6 +142,10 @@ const NESTED: [(&str, &str, &str, &str, &str, usize, &str); 39] = [
     ("x = ", "f(", "1", ")", "\n", 99, "module"),
     ("x = ", "f(", "1", ")", "\n", 100, "1:203 too deep"),
     ("x = ", "f(y=", "1", ")", "\n", 100, "1:401 too deep"),
+];
+
+// Conditional expressions, and tuples in brackets.
+const CONDITIONALS_AND_TUPLES: [(&str, &str, &str, &str, &str, usize, &str); 4] = [
     ("x = ", "a if b else ", "c", "", "\n", 99, "module"),
     (
         "x = ",
@@ -143,6 +158,10 @@ const NESTED: [(&str, &str, &str, &str, &str, usize, &str); 39] = [
     ),
     ("x = ", "(1, ", "1", ")", "\n", 49, "module"),
     ("x = ", "(1, ", "1", ")", "\n", 50, "1:202 too deep"),
+];
+
+// Targets.
+const TARGETS: [(&str, &str, &str, &str, &str, usize, &str); 6] = [
     ("", "(", "x", ")", " = 1\n", 99, "module"),
     ("", "(", "x", ")", " = 1\n", 100, "1:101 too deep"),
     ("", "(", "x, y", ")", " = 1\n", 99, "module"),
@@ -157,6 +176,10 @@ const NESTED: [(&str, &str, &str, &str, &str, usize, &str); 39] = [
         100,
         "1:105 too deep",
     ),
+];
+
+// Branches, and chains that are one node.
+const BRANCHES_AND_CHAINS: [(&str, &str, &str, &str, &str, usize, &str); 6] = [
     ("if a: b\n", "", "", "elif c: d\n", "", 98, "module"),
     ("if a: b\n", "", "", "elif c: d\n", "", 99, "100:9 too deep"),
     ("x = a", "", "", " < b", "\n", 1000, "module"),
@@ -185,20 +208,65 @@ fn nested(
     Ok(text)
 }
 
-// A node may have 100 others above it.
-#[test]
-fn deep_modules_are_refused(rt: HostRuntime) -> Result<(), Fail> {
-    let alloc = rt.alloc();
-    for (first, before, middle, behind, last, count, want) in NESTED {
-        let mut text = nested(alloc, first, before, middle, behind, count)?;
+// The nested texts of which something else comes than stands beside them. A node may have 100 others above it.
+fn nested_differences(
+    alloc: Global,
+    rows: &[(&str, &str, &str, &str, &str, usize, &str)],
+) -> Result<String, Fail> {
+    let mut differences = String::new(alloc);
+    for (first, before, middle, behind, last, count, want) in rows {
+        let mut text = nested(alloc, first, before, middle, behind, *count)?;
         text.push_str(last)?;
         let told = told(alloc, text.as_str())?;
-        assert_eq!(rt;
-            told.as_str(),
-            want,
-            "{count} times {before:?} and {behind:?}"
-        );
+        if told.as_str() != *want {
+            let difference = format!(in alloc;
+                "{count} times {before:?} and {behind:?} gives {told}; "
+            )?;
+            differences.push_str(difference.as_str())?;
+        }
     }
+    Ok(differences)
+}
+
+#[test]
+fn deep_brackets_are_refused(rt: HostRuntime) -> Result<(), Fail> {
+    assert_eq!(rt; nested_differences(rt.alloc(), &BRACKETS)?.as_str(), "");
+    Ok(())
+}
+
+#[test]
+fn deep_operators_are_refused(rt: HostRuntime) -> Result<(), Fail> {
+    assert_eq!(rt; nested_differences(rt.alloc(), &OPERATORS)?.as_str(), "");
+    Ok(())
+}
+
+#[test]
+fn deep_primaries_are_refused(rt: HostRuntime) -> Result<(), Fail> {
+    assert_eq!(rt; nested_differences(rt.alloc(), &PRIMARIES)?.as_str(), "");
+    Ok(())
+}
+
+#[test]
+fn deep_conditionals_and_tuples_are_refused(rt: HostRuntime) -> Result<(), Fail> {
+    assert_eq!(rt;
+        nested_differences(rt.alloc(), &CONDITIONALS_AND_TUPLES)?.as_str(),
+        ""
+    );
+    Ok(())
+}
+
+#[test]
+fn deep_targets_are_refused(rt: HostRuntime) -> Result<(), Fail> {
+    assert_eq!(rt; nested_differences(rt.alloc(), &TARGETS)?.as_str(), "");
+    Ok(())
+}
+
+#[test]
+fn deep_branches_and_chains_are_refused(rt: HostRuntime) -> Result<(), Fail> {
+    assert_eq!(rt;
+        nested_differences(rt.alloc(), &BRANCHES_AND_CHAINS)?.as_str(),
+        ""
+    );
     Ok(())
 }
 
