@@ -4,7 +4,7 @@ use Rattle.py_nesting.specs.Forms.{NameToken, LiteralToken, NameForm, SubscriptF
 use Rattle.py_nesting.specs.Shapes.{TokenShape, ExprShape, LoopTargetShape, ClassShape, StmtShape, BodyShape, Entry, entry}
 use Rattle.py_fronts.specs.Kinds.{Kind, AToken, ANameToken, ALiteralToken, AnExpr, ANameExpr, ATarget, TargetsExpr, ASubscript, ATuple, AComprehension, ADict, ACall, AnyCall, AnOpenSlice, ACompare, AnAnd, AnOr, ASign, ALoop, ALoopTarget, OneNameTarget, SomeNamesTarget, TheTargets, AClass, ABareClass, AStmt, AGlobal, ATry, ADef, AClassStmt, ABody, AFilledBody, fits, is_kind_of}
 
-no_fit : {A : Type 0} → false ≡ true → A
+pub no_fit : {A : Type 0} → false ≡ true → A
 no_fit e = absurd (cc)
 
 a_bare_class_is_a_class : (e : Entry) → fits ABareClass e ≡ true → fits AClass e ≡ true
