@@ -7,6 +7,7 @@ use py_lexer::lex;
 use py_lexer::refusal::LexRefusal;
 use py_lexer::token::Token;
 use py_parser::parse;
+use py_outside::construct::Construct;
 use py_recogniser::refusal::ParseRefusal;
 use shed_base::{Folder, Names, Place, RealFolder, Width};
 use std::alloc::Global;
@@ -22,6 +23,7 @@ enum Answer {
     Statements(usize),
     NoTokens(LexRefusal),
     Unexpected(Place),
+    Outside(Place, Construct),
     TooDeep(Place),
     NoMemory,
 }
@@ -46,6 +48,12 @@ fn main(rt: HostRuntime) -> ExitCode {
             let line = place.line;
             let column = place.column;
             println!(rt; "unexpected token at {line}:{column}")
+        }
+        Answer::Outside(place, construct) => {
+            let line = place.line;
+            let column = place.column;
+            let name = construct.name();
+            println!(rt; "{name} at {line}:{column}")
         }
         Answer::TooDeep(place) => {
             let line = place.line;
@@ -76,6 +84,7 @@ fn read_tree(alloc: Global, tokens: &[Token], names: &Names) -> Answer {
     match parse(alloc, tokens, names) {
         Ok(module) => Answer::Statements(module.body.len()),
         Err(ParseRefusal::Unexpected(place, _)) => Answer::Unexpected(place),
+        Err(ParseRefusal::Outside(place, construct)) => Answer::Outside(place, construct),
         Err(ParseRefusal::TooDeep(place)) => Answer::TooDeep(place),
         Err(ParseRefusal::NoMemory) => Answer::NoMemory,
     }

@@ -1,18 +1,22 @@
 -- What stands behind the longest front.
-use Rattle.std.proofs.Common.{◌≡◌, ℕ, List, [], ◌∷◌, ◌++◌, map, length, take, drop, get_or, refl, sym, ap, ◌∙◌, subst, subst₂}
-use Rattle.std.proofs.lemmas.List.{map-append, drop-map}
+use Rattle.std.proofs.Common.{◌≡◌, ℕ, suc, ◌+◌, List, [], ◌∷◌, ◌++◌, Option, None, Some, map, length, take, drop, get_or, refl, sym, ap, ◌∙◌, subst, subst₂, arith}
+use Rattle.std.proofs.lemmas.List.{map-append, drop-map, length-append, length-map}
 use Rattle.std.proofs.Math.Seq.{take-append_seam, drop-append_seam}
 use Rattle.py_tokens.specs.Token as texts
 use Rattle.py_syntax.specs.Token as meaning
 use Rattle.py_syntax.specs.Token.{Token}
 use Rattle.py_syntax.specs.Laws.{IsLongestFront}
+use Rattle.py_constructs.specs.Outside.{Told, told, IsTold}
+use Rattle.py_outside.specs.PlainConstructs.{plain_construct}
+use Rattle.py_outside.specs.declared.construct.Construct.{Construct}
+use Rattle.py_recogniser.specs.declared.refusal.ParseRefusal.TheVariants as refusal
 use Rattle.py_lexer.specs.PlainTokens.{plain_place, plain_kind as text_kind, plain_token as text_token, plain_tokens as text_tokens}
 use Rattle.py_lexer.specs.declared.token.TokenKind.{TokenKind}
 use Rattle.py_lexer.specs.declared.token.TokenKind.TheVariants as kind
 use Rattle.py_lexer.specs.declared.token.Token.{Token as TokenRead}
-use Rattle.py_table.specs.PlainTokens.{plain_kind, plain_tokens}
+use Rattle.py_table.specs.PlainTokens.{plain_kind, plain_token, plain_tokens}
 use Rattle.py_depth.specs.Found.{IsRest}
-use Rattle.py_recogniser.specs.Refused.{last_place, IsFound}
+use Rattle.py_recogniser.specs.Refused.{last_place, IsFound, IsParseRefused}
 use Rattle.shed_base.specs.declared.place.Place.{Place}
 use Rattle.py_recogniser.specs.declared.refusal.Found.{Found}
 
@@ -54,18 +58,54 @@ all_spelt names (t ∷ ts) =
     ap (λ (k : texts.Kind). record { place = plain_place t.place; kind = k } ∷ map (spelt names) (plain_tokens names ts)) (kind_spelt names t.kind)
     ∙ ap (λ (l : List texts.Token). text_token names t ∷ l) (all_spelt names ts)
 
+same_split : (front back ahead rest : List Token) → front ++ back ≡ ahead ++ rest → length back ≡ length rest → (front ≡ ahead) × (back ≡ rest)
+same_split [] back [] rest e h = (refl, e)
+same_split [] back (a ∷ ahead) rest e h = let n : length back ≡ suc (length ahead) + length rest = ap length e ∙ length-append (a ∷ ahead) rest in absurd (omega arith)
+same_split (t ∷ front) back [] rest e h = let n : suc (length front) + length back ≡ length rest = sym (length-append (t ∷ front) back) ∙ ap length e in absurd (omega arith)
+same_split (t ∷ front) back (a ∷ ahead) rest e h =
+    let first : t ≡ a = ap (λ (l : List Token). elim l [ [] ↦ t | x ∷ xs ↦ x ]) e in
+    let s = same_split front back ahead rest (ap (λ (l : List Token). elim l [ [] ↦ [] | x ∷ xs ↦ xs ]) e) h in
+    (ap (λ (x : Token). x ∷ front) first ∙ ap (λ (l : List Token). a ∷ l) s.0, s.1)
+
+-- tokens that are split where their rest begins
+pub front_split : (names : List (List ℕ)) (ts front back rest : List TokenRead) → ts ≡ front ++ back → length back ≡ length rest → IsRest (plain_tokens names ts) (plain_tokens names rest)
+    → (plain_tokens names ts ≡ plain_tokens names front ++ plain_tokens names back) × IsLongestFront (plain_tokens names front) (plain_tokens names back)
+front_split names ts front back rest e h (ahead, z, l) =
+    let plain : plain_tokens names ts ≡ plain_tokens names front ++ plain_tokens names back = ap (plain_tokens names) e ∙ map-append (plain_token names) front back in
+    let many : length (plain_tokens names back) ≡ length (plain_tokens names rest) = length-map back (plain_token names) ∙ h ∙ sym (length-map rest (plain_token names)) in
+    let s = same_split (plain_tokens names front) (plain_tokens names back) ahead (plain_tokens names rest) (sym plain ∙ z) many in
+    (plain, subst₂ (λ (a b : List Token). IsLongestFront a b) (sym s.0) (sym s.1) l)
+
+-- what is told behind the longest front is told of all tokens
+told_at : (ts front back : List Token) (found : Option Told) → ts ≡ front ++ back → IsLongestFront front back → (IsLongestFront front back → IsTold (front ++ back) (length front) found)
+    → (take (length front) ts ≡ front) × (drop (length front) ts ≡ back) × IsTold ts (length front) found
+told_at ts front back found e l is_told = (
+  ap (take (length front)) e ∙ take-append_seam front back,
+  ap (drop (length front)) e ∙ drop-append_seam front back,
+  subst (λ (x : List Token). IsTold x (length front) found) (sym e) (is_told l),
+)
+
 -- a refusal at the rest of some tokens
-pub unexpected_at : (names : List (List ℕ)) (ts rest : List TokenRead) (p : Place) (f : Found) → IsRest (plain_tokens names ts) (plain_tokens names rest)
-    → IsFound names (text_tokens names ts) p f (text_tokens names rest)
-    → (count : ℕ) × IsLongestFront (take count (plain_tokens names ts)) (drop count (plain_tokens names ts))
-    × IsFound names (text_tokens names ts) p f (drop count (text_tokens names ts))
-unexpected_at names ts rest p f r found =
-    let n : ℕ = length r.0 in
-    let before : take n (plain_tokens names ts) ≡ r.0 = ap (take n) r.1 ∙ take-append_seam r.0 (plain_tokens names rest) in
-    let behind : drop n (plain_tokens names ts) ≡ plain_tokens names rest = ap (drop n) r.1 ∙ drop-append_seam r.0 (plain_tokens names rest) in
-    let behind_texts : drop n (text_tokens names ts) ≡ text_tokens names rest =
-    ap (drop n) (sym (all_spelt names ts)) ∙ drop-map (spelt names) n (plain_tokens names ts) ∙ ap (map (spelt names)) behind ∙ all_spelt names rest in (
+pub unexpected_at : (names : List (List ℕ)) (ts front back rest : List TokenRead) (p : Place) (f : Found) → ts ≡ front ++ back → length back ≡ length rest
+    → (IsLongestFront (plain_tokens names front) (plain_tokens names back) → IsTold (plain_tokens names front ++ plain_tokens names back) (length (plain_tokens names front)) None)
+    → IsFound names (text_tokens names ts) p f (text_tokens names back) → IsRest (plain_tokens names ts) (plain_tokens names rest)
+    → IsParseRefused names ts (refusal.Unexpected p f)
+unexpected_at names ts front back rest p f e h is_told found r =
+    let s = front_split names ts front back rest e h r in
+    let n : ℕ = length (plain_tokens names front) in
+    let t = told_at (plain_tokens names ts) (plain_tokens names front) (plain_tokens names back) None s.0 s.1 is_told in
+    let behind_texts : drop n (text_tokens names ts) ≡ text_tokens names back =
+    ap (drop n) (sym (all_spelt names ts)) ∙ drop-map (spelt names) n (plain_tokens names ts) ∙ ap (map (spelt names)) t.1 ∙ all_spelt names back in (
       n,
-      subst₂ (λ (a b : List Token). IsLongestFront a b) (sym before) (sym behind) r.2,
+      subst₂ (λ (a b : List Token). IsLongestFront a b) (sym t.0) (sym t.1) s.1,
       subst (λ (l : List texts.Token). IsFound names (text_tokens names ts) p f l) (sym behind_texts) found,
+      t.2,
     )
+
+pub outside_at : (names : List (List ℕ)) (ts front back rest : List TokenRead) (p : Place) (c : Construct) → ts ≡ front ++ back → length back ≡ length rest
+    → (IsLongestFront (plain_tokens names front) (plain_tokens names back) → IsTold (plain_tokens names front ++ plain_tokens names back) (length (plain_tokens names front)) (Some (told (plain_construct c) (plain_place p))))
+    → IsRest (plain_tokens names ts) (plain_tokens names rest) → IsParseRefused names ts (refusal.Outside p c)
+outside_at names ts front back rest p c e h is_told r =
+    let s = front_split names ts front back rest e h r in
+    let t = told_at (plain_tokens names ts) (plain_tokens names front) (plain_tokens names back) (Some (told (plain_construct c) (plain_place p))) s.0 s.1 is_told in
+    (length (plain_tokens names front), subst₂ (λ (a b : List Token). IsLongestFront a b) (sym t.0) (sym t.1) s.1, t.2)

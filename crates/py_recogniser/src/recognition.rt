@@ -1,16 +1,17 @@
 //! Whether tokens are a module that is not nested too deep.
 
 ghost use Rattle.std.specs.Prelude.{ℕ, ◌≡◌, List, IfOk, IfErr, OnOk};
-ghost use Rattle.py_lexer.specs.PlainTokens.{plain_place, plain_kind, plain_tokens as text_tokens};
+ghost use Rattle.py_lexer.specs.PlainTokens.{plain_place, plain_tokens as text_tokens};
 ghost use Rattle.py_table.specs.PlainTokens.{plain_tokens};
+ghost use Rattle.py_depth.specs.Found.{IsRest};
 ghost use Rattle.py_recogniser.specs.Recognised.{IsRecognised};
 ghost use Rattle.py_recogniser.specs.Refused.{last_place, IsFound, IsParseRefused};
 
 use crate::refusal::{Found, ParseRefusal};
 use py_depth::{Depth, find_depth};
-use py_lexer::token::{Token, TokenKind};
+use py_lexer::token::Token;
+use py_outside::{copied, find_outside};
 use shed_base::{Names, Place};
-use sqlite_items::Items;
 use std::alloc::{AllocError, Global};
 
 /// Where a module begins.
@@ -19,26 +20,6 @@ const BEGINNING: Place = Place {
     line: 1,
     column: 1,
 };
-
-fn copied(alloc: Global, kind: &TokenKind) -> Result<TokenKind, AllocError>
-    ensures { IfOk result (λ k. (names : List (List ℕ)) → plain_kind names k ≡ plain_kind names kind.now) }
-{
-    let kind = match kind {
-        TokenKind::Name(name) => TokenKind::Name(*name),
-        TokenKind::Keyword(keyword) => TokenKind::Keyword(*keyword),
-        TokenKind::Operator(operator) => TokenKind::Operator(*operator),
-        TokenKind::Number(value) => TokenKind::Number(*value),
-        TokenKind::Text(text) => TokenKind::Text(Items::from_slice(alloc, text.as_slice())?),
-        TokenKind::Float => TokenKind::Float,
-        TokenKind::Imaginary => TokenKind::Imaginary,
-        TokenKind::Bytes => TokenKind::Bytes,
-        TokenKind::Formatted => TokenKind::Formatted,
-        TokenKind::Newline => TokenKind::Newline,
-        TokenKind::Indent => TokenKind::Indent,
-        TokenKind::Dedent => TokenKind::Dedent,
-    };
-    Ok(kind)
-}
 
 #[tactic(auto, using(crate::proofs::FrontsFound::lasts))]
 fn place_of_last(tokens: &[Token]) -> Place
@@ -60,11 +41,31 @@ fn found(alloc: Global, tokens: &[Token], rest: &[Token]) -> Result<(Place, Foun
     }
 }
 
+/// Why tokens are no module, where this is their rest behind the longest front of one.
+fn refusal_at(
+    alloc: Global,
+    tokens: &[Token],
+    rest: &[Token],
+    names: &Names,
+) -> Result<ParseRefusal, AllocError>
+    ensures { IfOk result (λ refusal. IsRest (plain_tokens names.now tokens.now) (plain_tokens names.now rest.now) → IsParseRefused names.now tokens.now refusal) }
+{
+    let Some(count) = tokens.len().checked_sub(rest.len()) else {
+        return Err(AllocError);
+    };
+    let (front, rest) = tokens.split_at(count);
+    if let Some((construct, place)) = find_outside(alloc, front, rest, names)? {
+        return Ok(ParseRefusal::Outside(place, construct));
+    }
+    let (place, found) = found(alloc, tokens, rest)?;
+    Ok(ParseRefusal::Unexpected(place, found))
+}
+
 /// Whether tokens are a module; names among the tokens stand for the texts of `names`.
 ///
-/// Fails with the first token with which no front of a module goes on; where a node of the tree has more than 100 others
-/// above it; and with `NoMemory` where memory runs out. The Python reference's "Full Grammar specification", cut to the
-/// profile, is the grammar.
+/// Fails with the first token with which no front of a module goes on, or with the construct outside the profile that stands in
+/// its place; where a node of the tree has more than 100 others above it; and with `NoMemory` where memory runs out. The Python
+/// reference's "Full Grammar specification", cut to the profile, is the grammar.
 pub fn recognise(alloc: Global, tokens: &[Token], names: &Names) -> Result<(), ParseRefusal>
     ensures recognised { OnOk result (IsRecognised (plain_tokens names.now tokens.now)) }
     ensures refused { IfErr result (IsParseRefused names.now tokens.now) }
@@ -72,9 +73,6 @@ pub fn recognise(alloc: Global, tokens: &[Token], names: &Names) -> Result<(), P
     match find_depth(alloc, tokens, names)? {
         Depth::Shallow => Ok(()),
         Depth::TooDeep(place) => Err(ParseRefusal::TooDeep(place)),
-        Depth::Stuck(rest) => {
-            let (place, found) = found(alloc, tokens, rest)?;
-            Err(ParseRefusal::Unexpected(place, found))
-        }
+        Depth::Stuck(rest) => Err(refusal_at(alloc, tokens, rest, names)?),
     }
 }

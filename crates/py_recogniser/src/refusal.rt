@@ -4,6 +4,7 @@ ghost use Rattle.std.specs.Prelude.{◌≡◌};
 ghost use Rattle.py_recogniser.specs.declared.refusal.ParseRefusal.TheVariants.{NoMemory};
 
 use py_lexer::token::TokenKind;
+use py_outside::construct::Construct;
 use shed_base::Place;
 use std::alloc::AllocError;
 use thiserror::Error;
@@ -22,6 +23,9 @@ pub enum ParseRefusal {
     /// The first token with which no front of a module goes on. The end has the place of the last token.
     #[error("unexpected token")]
     Unexpected(Place, Found),
+    /// A construct outside the profile stands in place of such a token; its head has this place.
+    #[error("construct outside the profile")]
+    Outside(Place, Construct),
     /// The first place by line and column where a node of the tree has more than 100 others above it.
     #[error("nested too deep")]
     TooDeep(Place),

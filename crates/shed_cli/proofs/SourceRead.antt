@@ -1,5 +1,5 @@
 -- What stands behind a text that was read, and behind each fault of one that was not.
-use Rattle.std.proofs.Common.{◌≡◌, ℕ, List, [], ◌∷◌, Some, take, drop, true, false, refl, sym, ap, ◌∙◌, subst}
+use Rattle.std.proofs.Common.{◌≡◌, ℕ, List, [], ◌∷◌, Some, None, take, drop, true, false, refl, sym, ap, ◌∙◌, subst}
 use Rattle.std.specs.Prelude.{codes, string_bytes, ◌++◌}
 use Rattle.runs.specs.Number.{W32}
 use Rattle.shed_base.specs.Names.{special_texts, with_texts}
@@ -12,6 +12,10 @@ use Rattle.py_syntax.specs.Tree as whole
 use Rattle.py_syntax.specs.Grammar.{IsModule}
 use Rattle.py_syntax.specs.Laws.{IsLongestFront}
 use Rattle.py_syntax.specs.Heights.{IsShallow}
+use Rattle.py_constructs.specs.Construct.{construct_text}
+use Rattle.py_constructs.specs.Outside.{told, IsTold}
+use Rattle.py_outside.specs.PlainConstructs.{plain_construct}
+use Rattle.py_outside.specs.declared.construct.Construct.{Construct}
 use Rattle.py_meaning.specs.Tree.{Body}
 use Rattle.py_meaning.specs.Rules.{are_reads_sure}
 use Rattle.py_meaning.specs.Built.{built_body, unbuilt, first_place}
@@ -27,7 +31,7 @@ use Rattle.py_recogniser.specs.declared.refusal.Found.{Found}
 use Rattle.py_recogniser.specs.declared.refusal.Found.TheVariants as found
 use Rattle.py_recogniser.specs.declared.refusal.ParseRefusal.TheVariants as parse
 use Rattle.shed_meaning.specs.TokenText.{token_text}
-use Rattle.shed_meaning.specs.Fault.{BadToken, Unexpected, TooDeep, Unbuilt, last_place, place_at, said_at}
+use Rattle.shed_meaning.specs.Fault.{BadToken, Unexpected, Outside, TooDeep, Unbuilt, last_place, place_at, said_at}
 use Rattle.shed_cli.specs.Faults.{found_text, status_said, IsRefusalSaid, IsFaultOf}
 use Rattle.shed_cli.specs.declared.fault.Fault.{Fault as FaultSaid}
 use Rattle.shed_cli.proofs.TokensNumbered.{grammar_sees}
@@ -98,6 +102,25 @@ module _ (text : List ℕ) (names : List (List ℕ)) (ts : List TokenRead) (lexe
         longest = subst (λ (us : List Token). IsLongestFront (take h.0 us) (drop h.0 us)) (sym seen) h.1;
         place = found_place names (text_tokens names ts) p f (drop h.0 (text_tokens names ts)) h.2;
         words = found_words names (text_tokens names ts) p f (drop h.0 (text_tokens names ts)) h.2;
+        none = subst (λ (us : List Token). IsTold us h.0 None) (sym seen) h.3;
+      },
+    ),
+    ap plain_place place,
+    words,
+    ap status_said limit,
+  )
+
+  pub fault_outside : (p : Place) (c : Construct) (said : FaultSaid) → IsParseRefused names ts (parse.Outside p c) → said.place ≡ p
+      → string_bytes said.said ≡ codes "P2 Outside " ++ construct_text (plain_construct c) → said.limit ≡ false → IsFaultOf text said
+  fault_outside p c said h place words limit = (
+    Outside (plain_place p) (plain_construct c),
+    (
+      text_tokens names ts,
+      lexed,
+      record {
+        count = h.0;
+        longest = subst (λ (us : List Token). IsLongestFront (take h.0 us) (drop h.0 us)) (sym seen) h.1;
+        told = subst (λ (us : List Token). IsTold us h.0 (Some (told (plain_construct c) (plain_place p)))) (sym seen) h.2;
       },
     ),
     ap plain_place place,

@@ -3,11 +3,14 @@
 ghost use Rattle.std.specs.Prelude.{ℕ, ◌≡◌, ◌<◌, ◌++◌, true, false, List, [], ◌∷◌, Bool, codes, IfOk, OnOk, string_bytes};
 ghost use Rattle.std.specs.Fmt.{decimal};
 ghost use Rattle.py_lexer.specs.PlainTokens.{plain_place, plain_kind};
+ghost use Rattle.py_constructs.specs.Construct.{construct_text};
+ghost use Rattle.py_outside.specs.PlainConstructs.{plain_construct};
 ghost use Rattle.shed_meaning.specs.TokenText.{hexadecimal, has_character, quote_of, quoted, all_quoted, repr_of, token_text};
 ghost use Rattle.shed_cli.specs.Faults.{found_text, IsRefusalSaid};
 
 use py_lexer::refusal::LexRefusal;
 use py_lexer::token::TokenKind;
+use py_outside::construct::Construct;
 use py_recogniser::refusal::Found;
 use shed_base::{Names, NoMemory, Place};
 use std::alloc::{AllocError, Global};
@@ -64,6 +67,19 @@ pub(crate) fn too_deep(alloc: Global, place: Place) -> Result<Fault, NoMemory>
     ensures { IfOk result (λ f. (f.place ≡ place) × (string_bytes f.said ≡ codes "P3 TooDeep") × (f.limit ≡ true)) }
 {
     fault_at(alloc, place, "P3 TooDeep", true)
+}
+
+/// A construct outside the profile, whose head has this place.
+pub(crate) fn outside(
+    alloc: Global,
+    place: Place,
+    construct: Construct,
+) -> Result<Fault, NoMemory>
+    ensures { IfOk result (λ f. (f.place ≡ place) × (string_bytes f.said ≡ codes "P2 Outside " ++ construct_text (plain_construct construct)) × (f.limit ≡ false)) }
+{
+    let mut said = String::from_str(alloc, "P2 Outside ")?;
+    said.push_str(construct.name())?;
+    fault_at(alloc, place, said.as_str(), false)
 }
 
 /// A token that was not expected.

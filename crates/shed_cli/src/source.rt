@@ -5,7 +5,7 @@ ghost use Rattle.py_meaning.specs.Source.{IsSource};
 ghost use Rattle.py_built.specs.PlainTrees.{plain};
 ghost use Rattle.shed_cli.specs.Faults.{IsFaultOf};
 
-use crate::fault::{Fault, bad_token, too_deep, unbuilt, unexpected};
+use crate::fault::{Fault, bad_token, outside, too_deep, unbuilt, unexpected};
 use py_built::build;
 use py_built::tree::Module;
 use py_lexer::lex;
@@ -30,6 +30,9 @@ pub(crate) fn read_source(alloc: Global, text: &[u8]) -> Result<Result<Module, F
         Ok(module) => module,
         Err(ParseRefusal::Unexpected(place, found)) => {
             return Ok(Err(unexpected(alloc, place, &found, &names)?));
+        }
+        Err(ParseRefusal::Outside(place, construct)) => {
+            return Ok(Err(outside(alloc, place, construct)?));
         }
         Err(ParseRefusal::TooDeep(place)) => return Ok(Err(too_deep(alloc, place)?)),
         Err(ParseRefusal::NoMemory) => return Err(NoMemory),

@@ -194,7 +194,7 @@ fn writes_the_files(rt: HostRuntime) -> Result<(), Fail> {
 }
 
 // A text, the number that its translation ends with, and what is said.
-const REFUSED: [(&[u8], u8, &str); 68] = [
+const REFUSED: [(&[u8], u8, &str); 71] = [
     (b"a = 1\n\xff", 3, "main.py:2:1: L1 NotUtf8\n"),
     (b"x = $\n", 3, "main.py:1:5: L2 BadCharacter\n"),
     (b"x = 1__0\n", 3, "main.py:1:6: P1 Unexpected __0\n"),
@@ -239,6 +239,13 @@ const REFUSED: [(&[u8], u8, &str); 68] = [
     (b"x b'a'\n", 3, "main.py:1:3: P1 Unexpected bytes\n"),
     (b"x f'a'\n", 3, "main.py:1:3: P1 Unexpected fstring\n"),
     (b"x =\n", 3, "main.py:1:4: P1 Unexpected NEWLINE\n"),
+    (b"x = 1.5\n", 3, "main.py:1:5: P2 Outside float\n"),
+    (b"x = 1 / 2\n", 3, "main.py:1:7: P2 Outside division\n"),
+    (
+        b"x = 1\nprint('a' f'b')\n",
+        3,
+        "main.py:2:11: P2 Outside fstring\n",
+    ),
     (b"\tx = 1\n", 3, "main.py:1:2: P1 Unexpected INDENT\n"),
     (b"  x = 1\n", 3, "main.py:1:3: P1 Unexpected INDENT\n"),
     (

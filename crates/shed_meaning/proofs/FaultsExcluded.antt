@@ -14,7 +14,7 @@ use Rattle.py_meaning.specs.Tree.{Body}
 use Rattle.py_meaning.specs.Built.{unbuilt, first_place}
 use Rattle.py_meaning.specs.Source.{IsSource, grammar_tokens, names_of}
 use Rattle.py_meaning.proofs.BuiltLaws.{nothing_unbuilt}
-use Rattle.shed_meaning.specs.Fault.{Fault, BadToken, Unexpected, TooDeep, Unbuilt, HasFault, fault_status}
+use Rattle.shed_meaning.specs.Fault.{Fault, BadToken, Unexpected, Outside, TooDeep, Unbuilt, HasFault, fault_status}
 
 -- a module is no front of a longer one that breaks off
 no_module_at : (ts : List Token) (k : ℕ) (tree : whole.Body) → IsModule tree ts → IsLongestFront (take k ts) (drop k ts) → ⊥
@@ -37,6 +37,9 @@ no_fault text body (BadToken r p) s h = let a = s.read.lexed in let e : Tokens s
 no_fault text body (Unexpected p said) s h =
     let same = same_tokens _ s.read.tokens h.0 s.read.lexed h.1 in
     no_module_at (grammar_tokens h.0) h.2.count s.tree (subst (λ (ts : List TextToken). IsModule s.tree (grammar_tokens ts)) same s.read.spelt) h.2.longest
+no_fault text body (Outside p c) s h =
+    let same = same_tokens _ s.read.tokens h.0 s.read.lexed h.1 in
+    no_module_at (grammar_tokens h.0) h.2.count s.tree (subst (λ (ts : List TextToken). IsModule s.tree (grammar_tokens ts)) same s.read.spelt) h.2.longest
 no_fault text body (TooDeep p) s h =
     let same = same_tokens _ s.read.tokens h.tokens s.read.lexed h.lexed in
     let tree : s.tree ≡ h.tree =
@@ -56,6 +59,7 @@ pub not_fault : (f : Fault) (k : ℕ) → (k ≡ 3 → ⊥) → (k ≡ 5 → ⊥
 not_fault (BadToken TooLong p) k three five e = five (sym e)
 not_fault (BadToken r p) k three five e = three (sym e)
 not_fault (Unexpected p said) k three five e = three (sym e)
+not_fault (Outside p c) k three five e = three (sym e)
 not_fault (TooDeep p) k three five e = five (sym e)
 not_fault (Unbuilt p) k three five e = three (sym e)
 
@@ -63,5 +67,6 @@ pub either_fault : (f : Fault) → (fault_status f ≡ 3) ⊎ (fault_status f �
 either_fault (BadToken TooLong p) = inr refl
 either_fault (BadToken r p) = inl refl
 either_fault (Unexpected p said) = inl refl
+either_fault (Outside p c) = inl refl
 either_fault (TooDeep p) = inr refl
 either_fault (Unbuilt p) = inl refl

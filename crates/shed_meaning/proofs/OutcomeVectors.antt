@@ -1,13 +1,17 @@
 -- What some runs of the command come to, and what they cannot come to.
-use Rattle.std.proofs.Common.{◌≡◌, ℕ, zero, suc, ◌<◌, ◌≤◌, List, [], ◌∷◌, length, take, drop, Option, Some, None, inl, inr, refl, sym, ap, ◌∙◌, ◌++◌, replicate, subst, codes, lit≤, lit<, true, not-le_of_lt}
+use Rattle.std.proofs.Common.{◌≡◌, ℕ, zero, suc, ◌<◌, ◌≤◌, List, [], ◌∷◌, length, take, drop, Option, Some, None, inl, inr, refl, sym, ap, ◌∙◌, ◌++◌, replicate, subst, subst₂, codes, lit≤, lit<, true, not-le_of_lt}
 use Rattle.std.specs.Prelude.{option_map}
 use Rattle.std.specs.Fmt.{digits}
 use Rattle.std.specs.FinMap as map
-use Rattle.std.proofs.lemmas.List.{length-take-le}
+use Rattle.std.proofs.lemmas.List.{length-take-le, take-append-drop}
 use Rattle.runs.specs.Number.{W32}
 use Rattle.py_tokens.specs.Token.{Place, BadCharacter, TooLong, Tokens}
 use Rattle.py_tokens.specs.Tokens.{tokens_of_characters, beginning, unmarked}
+use Rattle.py_syntax.specs.Token.{Token, TFloat, TNumber}
 use Rattle.py_syntax.specs.Laws.{IsLongestFront}
+use Rattle.py_constructs.specs.Construct.{Float}
+use Rattle.py_constructs.specs.Outside.{IsTold}
+use Rattle.py_constructs.proofs.Told.{here_law, none_behind, is_plain}
 use Rattle.py_nesting.specs.Outlines.{Plain, Event, Over, Gather, JoinGroup, Assign}
 use Rattle.py_nesting.proofs.FirstFound.{first_law}
 use Rattle.shed_base.specs.Files.{Files, with_file}
@@ -17,7 +21,7 @@ use Rattle.py_meaning.proofs.SourceVectors.{at, is_ascii, ascii_tokens, tokens, 
 use Rattle.cpp_meaning.specs.Text.{File}
 use Rattle.cpp_meaning.proofs.TreeVectors.{sum}
 use Rattle.shed_meaning.specs.Headline.{written}
-use Rattle.shed_meaning.specs.Fault.{Fault, BadToken, Unexpected, TooDeep, Unbuilt, HasFault, place_at, said_at, fault_text, fault_status}
+use Rattle.shed_meaning.specs.Fault.{Fault, BadToken, Unexpected, Outside, TooDeep, Unbuilt, HasFault, place_at, said_at, fault_text, fault_status}
 use Rattle.shed_meaning.specs.Outcome.{World, Translated, Unread, Missing, TooLarge, Faulty, ReadFailed, WriteFailed, OutOfMemory, GivesModule, Spells, Yields, with_files, message_of, Says, Tells, Holds, Cause, Ends}
 use Rattle.shed_meaning.proofs.LayoutVectors.{sum_source}
 use Rattle.shed_meaning.proofs.HeadlineVectors.{sum_headline}
@@ -136,11 +140,18 @@ too_long = refused too_long_text (BadToken TooLong (at 1 5)) refl (lit≤ tt) (a
 -- where the longest front of the tokens has so many of them, the next one is said
 stuck : (k : ℕ) (text : List ℕ) (p : Place) (said : List ℕ) → is_ascii text ≡ true → tokens_of_characters W32 (beginning 0) (unmarked text) ≡ Tokens (tokens text)
     → IsLongestFront (take k (grammar_tokens (tokens text))) (drop k (grammar_tokens (tokens text)))
-    → p ≡ place_at (tokens text) (drop k (tokens text)) → said ≡ said_at (drop k (tokens text)) → HasFault text (Unexpected p said)
-stuck k text p said a lexed longest place words = (
+    → p ≡ place_at (tokens text) (drop k (tokens text)) → said ≡ said_at (drop k (tokens text)) → length (take k (grammar_tokens (tokens text))) ≡ k
+    → is_plain (drop k (grammar_tokens (tokens text))) ≡ true → HasFault text (Unexpected p said)
+stuck k text p said a lexed longest place words many plain = (
   tokens text,
   ascii_tokens text a ∙ lexed,
-  record { count = k; longest = longest; place = place; words = words },
+  record {
+    count = k;
+    longest = longest;
+    place = place;
+    words = words;
+    none = subst₂ (λ (ts : List Token) (n : ℕ). IsTold ts n None) (take-append-drop k (grammar_tokens (tokens text))) many (none_behind (take k (grammar_tokens (tokens text))) (drop k (grammar_tokens (tokens text))) longest plain);
+  },
 )
 
 -- no value stands behind `=`
@@ -149,7 +160,7 @@ no_value_text = codes "x = \n"
 
 no_value : Ends words (world (folder no_value_text) []) (world (folder no_value_text) (codes "main.py:1:5: P1 Unexpected NEWLINE\n")) 3
 unfolding no_value_text digits lib.Utf8.encode
-no_value = refused no_value_text (Unexpected (at 1 5) (codes "NEWLINE")) refl (lit≤ tt) (stuck 2 no_value_text _ _ refl refl (longest_front 400 2 no_value_text refl) refl refl)
+no_value = refused no_value_text (Unexpected (at 1 5) (codes "NEWLINE")) refl (lit≤ tt) (stuck 2 no_value_text _ _ refl refl (longest_front 400 2 no_value_text refl) refl refl refl refl)
 
 -- a branch with nothing in it: the end has the place of the last token, which is a NEWLINE
 no_block_text : List ℕ
@@ -157,7 +168,7 @@ no_block_text = codes "if 1 < 2:\n"
 
 no_block : Ends words (world (folder no_block_text) []) (world (folder no_block_text) (codes "main.py:1:10: P1 Unexpected END\n")) 3
 unfolding no_block_text digits lib.Utf8.encode
-no_block = refused no_block_text (Unexpected (at 1 10) (codes "END")) refl (lit≤ tt) (stuck 6 no_block_text _ _ refl refl (longest_front 400 6 no_block_text refl) refl refl)
+no_block = refused no_block_text (Unexpected (at 1 10) (codes "END")) refl (lit≤ tt) (stuck 6 no_block_text _ _ refl refl (longest_front 400 6 no_block_text refl) refl refl refl refl)
 
 -- a text behind a name is said as `repr` has it
 text_behind_text : List ℕ
@@ -165,7 +176,29 @@ text_behind_text = codes "x = 1\nx 'it\\'s'\n"
 
 text_behind : Ends words (world (folder text_behind_text) []) (world (folder text_behind_text) (codes "main.py:2:3: P1 Unexpected \"it's\"\n")) 3
 unfolding text_behind_text digits lib.Utf8.encode
-text_behind = refused text_behind_text (Unexpected (at 2 3) (codes "\"it's\"")) refl (lit≤ tt) (stuck 5 text_behind_text _ _ refl refl (longest_front 400 5 text_behind_text refl) refl refl)
+text_behind = refused text_behind_text (Unexpected (at 2 3) (codes "\"it's\"")) refl (lit≤ tt) (stuck 5 text_behind_text _ _ refl refl (longest_front 400 5 text_behind_text refl) refl refl refl refl)
+
+-- a float stands where a number may
+half_text : List ℕ
+half_text = codes "x = 1.5\n"
+
+whole_text : List ℕ
+whole_text = codes "x = 0\n"
+
+half : Ends words (world (folder half_text) []) (world (folder half_text) (codes "main.py:1:5: P2 Outside float\n")) 3
+unfolding half_text whole_text digits lib.Utf8.encode
+half =
+    refused half_text (Outside (at 1 5) Float) refl (lit≤ tt) (
+      tokens half_text,
+      ascii_tokens half_text refl ∙ refl,
+      record {
+        count = 2;
+        longest = longest_front 400 2 half_text refl;
+        told =
+          here_law Float (take 2 (grammar_tokens (tokens half_text))) (at 1 5) TFloat (drop 3 (grammar_tokens (tokens half_text))) (longest_front 400 2 half_text refl)
+              (TNumber 0, refl, (at 1 5, refl, refl, refl), (drop 3 (grammar_tokens (tokens whole_text)), tree 400 whole_text, spelt_text 400 whole_text refl));
+      },
+    )
 
 -- a number below a hundred signs and their statement
 too_deep_text : List ℕ

@@ -4,7 +4,8 @@ use Rattle.std.specs.Fmt.{digits}
 use Rattle.py_tokens.specs.Token.{Place, MixedTabs, TooLong, TName, TNumber, TText, TDedent}
 use Rattle.shed_meaning.specs.Words.{reading}
 use Rattle.shed_meaning.specs.TokenText.{token_text}
-use Rattle.shed_meaning.specs.Fault.{Fault, BadToken, Unexpected, TooDeep, Unbuilt}
+use Rattle.py_constructs.specs.Construct.{FormattedText}
+use Rattle.shed_meaning.specs.Fault.{Fault, BadToken, Unexpected, Outside, TooDeep, Unbuilt}
 use Rattle.shed_meaning.specs.Outcome.{Translated, Unread, Missing, TooLarge, Faulty, ReadFailed, WriteFailed, OutOfMemory, status_of, message_of}
 
 -- ---- words
@@ -95,6 +96,10 @@ said_too_long = (refl, refl)
 said_unexpected : Said (Unexpected (at 3 4) (codes "else")) (codes "main.py:3:4: P1 Unexpected else\n") 3
 unfolding digits
 said_unexpected = (refl, refl)
+
+said_outside : Said (Outside (at 1 8) FormattedText) (codes "main.py:1:8: P2 Outside fstring\n") 3
+unfolding digits
+said_outside = (refl, refl)
 
 said_unbuilt : Said (Unbuilt (at 1 7)) (codes "main.py:1:7: P2 Outside unbuilt\n") 3
 unfolding digits

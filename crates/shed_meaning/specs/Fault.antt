@@ -1,5 +1,5 @@
 -- Why the text of a module is not translated: no tokens, no tree, a tree that is too deep, or one that isn't built.
-use Rattle.std.specs.Prelude.{◌≡◌, ℕ, List, [], ◌∷◌, ◌++◌, take, drop, Some, codes}
+use Rattle.std.specs.Prelude.{◌≡◌, ℕ, List, [], ◌∷◌, ◌++◌, take, drop, Some, None, codes}
 use Rattle.std.specs.Fmt.{decimal}
 use Rattle.runs.specs.Number.{W32}
 use Rattle.py_tokens.specs.Token.{Place, Refusal, NotUtf8, BadCharacter, BadIndent, MixedTabs, UnclosedText, UnclosedBracket, BadEscape, WideNumber, NonAsciiText, NotNormal, TooLong, Token, Tokens, Refused}
@@ -8,6 +8,8 @@ use Rattle.py_syntax.specs.Tree as whole
 use Rattle.py_syntax.specs.Grammar.{IsModule}
 use Rattle.py_syntax.specs.Laws.{IsLongestFront}
 use Rattle.py_nesting.specs.TooDeep.{IsFirstTooDeep}
+use Rattle.py_constructs.specs.Construct.{Construct, construct_text}
+use Rattle.py_constructs.specs.Outside.{told, IsTold}
 use Rattle.py_meaning.specs.Name.{Name, text_of}
 use Rattle.py_meaning.specs.Built.{unbuilt, first_place}
 use Rattle.py_meaning.specs.Source.{IsText, grammar_tokens}
@@ -18,6 +20,8 @@ pub data Fault : Type 0 where
   BadToken : (refusal : Refusal) → (place : Place) → Fault
   -- its tokens have no tree: the first with which no front of a module goes on, as it is printed
   Unexpected : (place : Place) → (said : List ℕ) → Fault
+  -- in place of such a token a construct outside the profile stands, whose head has this place
+  Outside : (place : Place) → (construct : Construct) → Fault
   -- the first place by place where a node of its tree has too many others above it
   TooDeep : (place : Place) → Fault
   -- the first place by place that isn't built
@@ -46,6 +50,13 @@ pub record IsUnexpected (ts : List Token) (p : Place) (said : List ℕ) : Type 0
   pub longest : IsLongestFront (take count (grammar_tokens ts)) (drop count (grammar_tokens ts))
   pub place : p ≡ place_at ts (drop count ts)
   pub words : said ≡ said_at (drop count ts)
+  pub none : IsTold (grammar_tokens ts) count None
+
+-- the same with a construct in place of what is said
+pub record IsOutside (ts : List Token) (p : Place) (c : Construct) : Type 0 where
+  pub count : ℕ
+  pub longest : IsLongestFront (take count (grammar_tokens ts)) (drop count (grammar_tokens ts))
+  pub told : IsTold (grammar_tokens ts) count (Some (told c p))
 
 pub record IsTooDeep (text : List ℕ) (p : Place) : Type 0 where
   pub tokens : List Token
@@ -58,6 +69,7 @@ pub record IsTooDeep (text : List ℕ) (p : Place) : Type 0 where
 abbrev pub HasFault : List ℕ → Fault → Type 0
 HasFault text (BadToken r p) = tokens_of 0 W32 text ≡ Refused r p
 HasFault text (Unexpected p said) = (ts : List Token) × (tokens_of 0 W32 text ≡ Tokens ts) × IsUnexpected ts p said
+HasFault text (Outside p c) = (ts : List Token) × (tokens_of 0 W32 text ≡ Tokens ts) × IsOutside ts p c
 HasFault text (TooDeep p) = IsTooDeep text p
 HasFault text (Unbuilt p) = (tree : whole.Body) × (names : List Name) × IsText text tree names × (first_place (unbuilt names [] tree) ≡ Some p)
 
@@ -93,12 +105,14 @@ located name p = text_of name ++ (codes ".py:" ++ (decimal p.line ++ (codes ":" 
 abbrev pub fault_place : Fault → Place
 fault_place (BadToken r p) = p
 fault_place (Unexpected p said) = p
+fault_place (Outside p c) = p
 fault_place (TooDeep p) = p
 fault_place (Unbuilt p) = p
 
 abbrev pub fault_said : Fault → List ℕ
 fault_said (BadToken r p) = refusal_text r
 fault_said (Unexpected p said) = codes "P1 Unexpected " ++ said
+fault_said (Outside p c) = codes "P2 Outside " ++ construct_text c
 fault_said (TooDeep p) = codes "P3 TooDeep"
 fault_said (Unbuilt p) = codes "P2 Outside unbuilt"
 

@@ -1,3 +1,4 @@
+mod outside;
 mod refused_blocks;
 mod refused_expressions;
 mod refused_statements;
@@ -35,8 +36,8 @@ fn spelling(alloc: Global, names: &Names, kind: &TokenKind) -> Result<String, Fa
     Ok(spelling)
 }
 
-// What comes of a text: that it is a module, where it is nested too deep, or the first token that fits nowhere with its line
-// and column before it.
+// What comes of a text: that it is a module, where it is nested too deep, where a construct outside the profile has its head, or
+// the first token that fits nowhere with its line and column before it.
 fn told(alloc: Global, text: &str) -> Result<String, Fail> {
     let mut names = Names::new(alloc)?;
     let Ok(tokens) = lex(alloc, text.as_bytes(), 0, Width::W32, &mut names) else {
@@ -53,6 +54,10 @@ fn told(alloc: Global, text: &str) -> Result<String, Fail> {
         }
         Err(ParseRefusal::Unexpected(Place { line, column, .. }, Found::End)) => {
             format!(in alloc; "{line}:{column} END")?
+        }
+        Err(ParseRefusal::Outside(Place { line, column, .. }, construct)) => {
+            let name = construct.name();
+            format!(in alloc; "{line}:{column} outside {name}")?
         }
         Err(ParseRefusal::NoMemory) => String::from_str(alloc, "no memory")?,
     };

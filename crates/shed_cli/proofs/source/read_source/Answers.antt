@@ -11,7 +11,7 @@ use Rattle.py_table.specs.PlainTokens.{plain_tokens}
 use Rattle.py_recogniser.specs.Refused.{IsParseRefused}
 use Rattle.py_ast.specs.PlainTrees.{plain as plain_whole}
 use Rattle.py_built.specs.PlainTrees.{plain}
-use Rattle.shed_cli.proofs.SourceRead.{fault_of_refusal, source_read, fault_unexpected, fault_too_deep, fault_unbuilt}
+use Rattle.shed_cli.proofs.SourceRead.{fault_of_refusal, source_read, fault_unexpected, fault_outside, fault_too_deep, fault_unbuilt}
 use Rattle.shed_cli.proofs.source.read_source.Goals as goal
 
 pub returns-in-Err : goal.returns-in-Err
@@ -30,6 +30,16 @@ returns-in-Err-Unexpected-clause-fault c =
     let said = c.in_ok-unexpected-in-Err-Unexpected.ensures in
     fault_unexpected c.args.text.now names ts c.in-Ok.ensures.tokens numbering c.in-Ok.ensures.held c.in-Err-Unexpected.place c.in-Err-Unexpected.found c.in_ok-unexpected-in-Err-Unexpected.field-0
     (subst (IsParseRefused names ts) c.in-Err-Unexpected.field-0-is refused) said.0 said.1 said.2
+
+pub returns-in-Err-Outside-clause-fault : goal.returns-in-Err-Outside-clause-fault
+returns-in-Err-Outside-clause-fault c =
+    let names = c.lex.new.names in
+    let ts = c.in-Ok.tokens.items in
+    let numbering = c.in-Ok.ensures.numbered ∙ ap (λ first. with_texts first (names_in (text_tokens names ts))) c.in_ok-names.ensures.texts in
+    let refused = subst (λ us. IsParseRefused names us c.in-Err-Outside.field-0) c.deref.ensures.value c.in-Err-Outside.ensures.refused in
+    let said = c.in_ok-outside-in-Err-Outside.ensures in
+    fault_outside c.args.text.now names ts c.in-Ok.ensures.tokens numbering c.in-Ok.ensures.held c.in-Err-Outside.place c.in-Err-Outside.construct c.in_ok-outside-in-Err-Outside.field-0
+    (subst (IsParseRefused names ts) c.in-Err-Outside.field-0-is refused) said.0 said.1 said.2
 
 pub returns-in-Err-TooDeep-clause-fault : goal.returns-in-Err-TooDeep-clause-fault
 returns-in-Err-TooDeep-clause-fault c =

@@ -1,0 +1,5 @@
+mod OwnTokens
+mod StandIns
+mod Standing
+mod Causes
+pub mod Told

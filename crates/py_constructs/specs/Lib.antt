@@ -1,0 +1,5 @@
+pub mod Construct
+pub mod Phrases
+pub mod StandIns
+pub mod Outside
+pub mod Trials
