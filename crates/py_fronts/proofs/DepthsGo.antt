@@ -30,7 +30,7 @@ brought_more at JoinGroup ds nodes others k h = h
 brought_more at Assign ds nodes others k h = h
 brought_more at Forget ds nodes others k h = h
 
-walk_both : (at : Place → Bool) (later events : List Event) (ds : List Demand)
+pub walk_both : (at : Place → Bool) (later events : List Event) (ds : List Demand)
     → met_depth at (walk (later ++ events) ds) ≡ max (met_depth at (nodes_of later ds)) (met_depth at (walk events (asked later ds)))
 walk_both at [] events ds = omega arith
 walk_both at (e ∷ later) events ds = brought_more at e ds _ _ _ (walk_both at later events (back e ds))

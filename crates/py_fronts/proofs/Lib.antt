@@ -1,7 +1,7 @@
 mod SubKinds
 mod ActionsFit
-mod RowsFit
-mod TableFits
-mod DerivedFit
-mod FrontsReached
-mod DepthsGo
+pub mod RowsFit
+pub mod TableFits
+pub mod DerivedFit
+pub mod FrontsReached
+pub mod DepthsGo

@@ -1,0 +1,6 @@
+mod EffectsTied
+mod RowsLow
+mod AsksKept
+mod LowRows
+mod Bounded
+mod Lower

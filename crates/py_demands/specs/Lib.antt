@@ -1,0 +1,5 @@
+pub mod Roles
+pub mod Asks
+pub mod Least
+pub mod AtMost
+pub mod Bound
