@@ -1,22 +1,27 @@
 -- What symbols derive asks no less of the parts before them than the symbols do.
-use Rattle.std.proofs.Common.{◌≡◌, ℕ, zero, suc, max, ◌≤◌, Bool, true, List, [], ◌∷◌, ◌++◌, map, length, Option, Some, None, refl, sym, ap, ◌∙◌, subst, arith}
+use Rattle.std.proofs.Common.{◌≡◌, ℕ, zero, suc, max, ◌≤◌, Bool, true, false, not, ◌&&◌, List, [], ◌∷◌, ◌++◌, map, length, Option, Some, None, refl, sym, ap, ◌∙◌, subst, arith}
 use Rattle.grammars.specs.Grammar.{Tok, Non, Do, Row, IsRow}
 use Rattle.grammars.specs.Derivation.{Derives}
-use Rattle.grammars.proofs.Bools.{and_left, and_right}
+use Rattle.grammars.proofs.Bools.{and_left, and_right, not_false}
 use Rattle.py_tokens.specs.Token.{Place}
-use Rattle.py_syntax.specs.Token.{Token}
+use Rattle.py_syntax.specs.Token.{Token, At}
 use Rattle.py_syntax.specs.Tree.{Body}
 use Rattle.py_syntax.specs.Build.{PToken, Parts, Action, act}
 use Rattle.py_syntax.specs.Kinds.{kind_of}
 use Rattle.py_syntax.specs.Table.{Symbol, Nonterminal, table}
 use Rattle.py_syntax.specs.Laws.{finished}
+use Rattle.py_nesting.specs.Depths.{here}
 use Rattle.py_nesting.specs.Outlines.{Outline, Event, built}
+use Rattle.py_nesting.specs.TreeOutlines.{leaf}
 use Rattle.py_nesting.specs.Shapes.{entry_of, Entry, entries_of, outlines_of}
 use Rattle.py_nesting.specs.Effects.{effect, effect_of, after_all}
-use Rattle.py_nesting.specs.Walk.{Demand, Whole, depth_of, walk, met_depth}
+use Rattle.py_nesting.specs.Walk.{Demand, Nothing, Whole, Inside, Assigned, InsideAssigned, raise, demanded, depth_of, walk, met_depth}
 use Rattle.py_nesting.proofs.EffectsKept.{effects_kept}
 use Rattle.py_nesting.proofs.WalkCounts.{walk_counts}
 use Rattle.py_fronts.specs.Kinds.{fits, token_kind}
+use Rattle.py_fronts.specs.Begins.{Begin}
+use Rattle.py_fronts.proofs.PartsBegin.{parts_begin}
+use Rattle.py_demands.proofs.StartsBelow.{starts_below}
 use Rattle.py_fronts.specs.Fit.{Fit}
 use Rattle.py_fronts.specs.AtFront.{asked, nodes_of}
 use Rattle.py_fronts.proofs.TableFits.{row_fits}
@@ -24,7 +29,7 @@ use Rattle.py_fronts.proofs.DerivedFit.{token_fits_so}
 use Rattle.py_fronts.proofs.FrontsReached.{built_more}
 use Rattle.py_fronts.proofs.DepthsGo.{walk_both}
 use Rattle.py_demands.specs.Roles.{asked_before}
-use Rattle.py_demands.specs.Asks.{of_outlines, tokens_depth}
+use Rattle.py_demands.specs.Asks.{of_outlines, entry_depth, tokens_depth, place_of, avoids}
 use Rattle.py_demands.specs.Least.{Ask, ask_least, low, before_action, before, least, may_ask, may_ask_first, are_askable}
 use Rattle.py_demands.specs.AtMost.{AtMost, AreAtMost}
 use Rattle.py_demands.specs.Bound.{standing}
@@ -32,10 +37,12 @@ use Rattle.py_demands.proofs.EffectsTied.{tied}
 use Rattle.py_demands.proofs.AsksKept.{action_kept, no_more_all, some_is}
 use Rattle.py_demands.proofs.LowRows.{low_row, least_frame, least_joined, askable_joined}
 
-pub record Bounds (symbols : List Symbol) (v w : Parts) (ds : List Demand) : Type 0 where
+pub record Bounds (symbols : List Symbol) (v w : Parts) (ts : List Token) (ds : List Demand) : Type 0 where
   pub demands : List Demand
   pub many : length demands ≡ length (entries_of v)
   pub stand : (at : Place → Bool) → standing at v demands ≤ standing at w ds
+  -- and no deeper, but for nodes at the tokens that are read
+  pub stand_so : (at : Place → Bool) → avoids at ts ≡ true → standing at w ds ≤ standing at v demands
   pub no_less : (qs bs : List Ask) → AreAtMost qs ds → are_askable symbols (Some qs) ≡ true → least symbols (Some qs) ≡ Some bs → AreAtMost bs demands
 
 -- the outlines behind an action have the nodes that it brings, and those before it as they are asked then
@@ -47,17 +54,35 @@ outlines_behind at v w more events ds b c =
     let old : depth_of at (outlines_of v) (asked more ds) ≡ met_depth at (walk events (asked more ds)) = walk_counts at events (outlines_of v) (asked more ds) b in
     omega arith
 
-by_token : (t : Token) (k : ℕ) (symbols : List Symbol) (v w : Parts) (ds : List Demand) → Bounds symbols (PToken t ∷ v) w ds → Bounds (Tok k ∷ symbols) v w ds
-by_token t k symbols v w ds b = go b.demands b.many b.stand b.no_less
+raised_nothing : (n m : ℕ) → m ≡ 0 → raise n m ≡ 0
+raised_nothing n m h = ap (raise n) h
+
+not_asked_there : (at : Place → Bool) (d : Demand) (p : Place) → at p ≡ false → demanded at d (leaf p) ≡ 0
+not_asked_there at Nothing p h = refl
+not_asked_there at (Whole n) p h = let e : here (at p) ≡ 0 = ap here h in raised_nothing n (max (here (at p)) 0) (omega arith)
+not_asked_there at (Inside n) p h = raised_nothing n 0 refl
+not_asked_there at (Assigned n) p h = let e : here (at p) ≡ 0 = ap here h in raised_nothing n (max (here (at p)) 0) (omega arith)
+not_asked_there at (InsideAssigned n) p h = raised_nothing n 0 refl
+
+token_avoided : (at : Place → Bool) (d : Demand) (t : Token) → at (place_of t) ≡ false → entry_depth at d (entry_of (PToken t)) ≡ 0
+token_avoided at d (At p k) h = not_asked_there at d p h
+
+by_token : (t : Token) (k : ℕ) (symbols : List Symbol) (v w : Parts) (ts : List Token) (ds : List Demand) → Bounds symbols (PToken t ∷ v) w ts ds → Bounds (Tok k ∷ symbols) v w (t ∷ ts) ds
+by_token t k symbols v w ts ds b = go b.demands b.many b.stand b.stand_so b.no_less
   where
     go : (these : List Demand) → length these ≡ length (entries_of (PToken t ∷ v)) → ((at : Place → Bool) → standing at (PToken t ∷ v) these ≤ standing at w ds)
-        → ((qs bs : List Ask) → AreAtMost qs ds → are_askable symbols (Some qs) ≡ true → least symbols (Some qs) ≡ Some bs → AreAtMost bs these) → Bounds (Tok k ∷ symbols) v w ds
-    go [] many stand no_less = absurd (omega arith)
-    go (d ∷ these) many stand no_less =
+        → ((at : Place → Bool) → avoids at ts ≡ true → standing at w ds ≤ standing at (PToken t ∷ v) these)
+        → ((qs bs : List Ask) → AreAtMost qs ds → are_askable symbols (Some qs) ≡ true → least symbols (Some qs) ≡ Some bs → AreAtMost bs these) → Bounds (Tok k ∷ symbols) v w (t ∷ ts) ds
+    go [] many stand stand_so no_less = absurd (omega arith)
+    go (d ∷ these) many stand stand_so no_less =
         record {
           demands = these;
           many = omega arith;
           stand = λ at. (let s = stand at in omega arith);
+          stand_so = λ at h. (
+              let s = stand_so at (and_right (not (at (place_of t))) (avoids at ts) h) in
+              let none : entry_depth at d (entry_of (PToken t)) ≡ 0 = token_avoided at d t (not_false (at (place_of t)) (and_left (not (at (place_of t))) (avoids at ts) h)) in omega arith
+              );
           no_less = λ qs bs h a e. rest_of qs bs h a (least symbols (Some qs)) refl e;
         }
       where
@@ -66,13 +91,23 @@ by_token t k symbols v w ds b = go b.demands b.many b.stand b.no_less
         rest_of qs bs h a (Some []) o e = absurd (cc)
         rest_of qs bs h a (Some (r ∷ rs)) o e = subst (λ (l : List Ask). AreAtMost l these) (some_is rs bs e) (no_less qs (r ∷ rs) h a o).1
 
-by_action : (a : Action) (symbols : List Symbol) (v w : Parts) (new : List Entry) (more events : List Event) (ds : List Demand) → effect_of a (entries_of v) ≡ Some (effect new more)
-    → built events ≡ Some (outlines_of v) → built (more ++ events) ≡ Some (outlines_of (act a v)) → entries_of (act a v) ≡ new → Bounds symbols (act a v) w ds → Bounds (Do a ∷ symbols) v w ds
-by_action a symbols v w new more events ds e b c same r =
+by_action : (a : Action) (symbols : List Symbol) (v w : Parts) (new : List Entry) (more events : List Event) (ts : List Token) (ds : List Demand) → Begin v → effect_of a (entries_of v) ≡ Some (effect new more)
+    → built events ≡ Some (outlines_of v) → built (more ++ events) ≡ Some (outlines_of (act a v)) → entries_of (act a v) ≡ new → Bounds symbols (act a v) w ts ds → Bounds (Do a ∷ symbols) v w ts ds
+by_action a symbols v w new more events ts ds begun e b c same r =
     let t = tied a (entries_of v) (effect new more) e r.demands in
     record {
       demands = asked_before a r.demands;
       many = t.2 (r.many ∙ ap length same);
+      stand_so = λ at h. (
+          let tokens = t.3 at in
+          let starts = starts_below a v at r.demands new more begun e in
+          let old : depth_of at (outlines_of v) (asked more (of_outlines new r.demands)) ≡ depth_of at (outlines_of v) (of_outlines (entries_of v) (asked_before a r.demands)) = ap (depth_of at (outlines_of v)) t.0 in
+          let behind = outlines_behind at v (act a v) more events (of_outlines new r.demands) b c in
+          let names : tokens_depth at (entries_of (act a v)) r.demands ≡ tokens_depth at new r.demands = ap (λ (es : List Entry). tokens_depth at es r.demands) same in
+          let outlines : depth_of at (outlines_of (act a v)) (of_outlines (entries_of (act a v)) r.demands) ≡ depth_of at (outlines_of (act a v)) (of_outlines new r.demands) =
+          ap (λ (es : List Entry). depth_of at (outlines_of (act a v)) (of_outlines es r.demands)) same in
+          let s = r.stand_so at h in omega arith
+          );
       stand = λ at. (
           let tokens = t.1 at in
           let old : depth_of at (outlines_of v) (asked more (of_outlines new r.demands)) ≡ depth_of at (outlines_of v) (of_outlines (entries_of v) (asked_before a r.demands)) = ap (depth_of at (outlines_of v)) t.0 in
@@ -89,13 +124,14 @@ by_action a symbols v w new more events ds e b c same r =
     kept qs bs h k None o f = absurd (cc)
     kept qs bs h k (Some rs) o f = action_kept a rs bs r.demands f (r.no_less qs rs h k o)
 
-by_row : (x : Nonterminal) (r : Row Nonterminal Action Parts) (symbols : List Symbol) (v w : Parts) (ds : List Demand) → IsRow r (table.rows x) → Bounds (r.symbols ++ symbols) v w ds
-    → Bounds (Non x ∷ symbols) v w ds
-by_row x r symbols v w ds i b =
+by_row : (x : Nonterminal) (r : Row Nonterminal Action Parts) (symbols : List Symbol) (v w : Parts) (ts : List Token) (ds : List Demand) → IsRow r (table.rows x) → Bounds (r.symbols ++ symbols) v w ts ds
+    → Bounds (Non x ∷ symbols) v w ts ds
+by_row x r symbols v w ts ds i b =
     record {
       demands = b.demands;
       many = b.many;
       stand = b.stand;
+      stand_so = b.stand_so;
       no_less = λ qs bs h k f. lowered qs bs h (and_right (may_ask_first x (least symbols (Some qs))) _ k) (least symbols (Some qs)) refl (and_left _ _ k) f;
     }
   where
@@ -110,23 +146,25 @@ by_row x r symbols v w ds i b =
         subst (λ (x : List Ask). AreAtMost x b.demands) (some_is (map (ask_least q) (low x) ++ cs) bs f)
             (no_more_all (map (ask_least q) (low x)) l.asks cs b.demands l.no_more_is (b.no_less qs (l.asks ++ cs) h askable joined))
 
-pub bounded : (n : ℕ) (symbols : List Symbol) (v w : Parts) (ts : List Token) (events : List Event) (ds : List Demand) → Fit symbols (entries_of v) → built events ≡ Some (outlines_of v)
-    → Derives table n symbols v ts w → length ds ≡ length (entries_of w) → Bounds symbols v w ds
-bounded zero [] v w ts events ds f b d m =
+pub bounded : (n : ℕ) (symbols : List Symbol) (v w : Parts) (ts : List Token) (events : List Event) (ds : List Demand) → Fit symbols (entries_of v) → built events ≡ Some (outlines_of v) → Begin v
+    → Derives table n symbols v ts w → length ds ≡ length (entries_of w) → Bounds symbols v w ts ds
+bounded zero [] v w ts events ds f b g d m =
     record {
       demands = ds;
       many = m ∙ ap (λ (u : Parts). length (entries_of u)) (sym d.1);
       stand = λ at. (let e : standing at v ds ≡ standing at w ds = ap (λ (u : Parts). standing at u ds) d.1 in omega arith);
+      stand_so = λ at h. (let e : standing at v ds ≡ standing at w ds = ap (λ (u : Parts). standing at u ds) d.1 in omega arith);
       no_less = λ qs bs h k e. subst (λ (l : List Ask). AreAtMost l ds) (some_is qs bs e) h;
     }
-bounded zero (s ∷ symbols) v w ts events ds f b d m = absurd d
-bounded (suc n) [] v w ts events ds f b d m = absurd d
-bounded (suc n) (Tok k ∷ symbols) v w ts events ds f b (t, rest, e, kind, d) m =
-    by_token t k symbols v w ds
-        (bounded n symbols (PToken t ∷ v) w rest events ds (f (entry_of (PToken t)) (subst (λ (m : ℕ). fits (token_kind m) (entry_of (PToken t)) ≡ true) kind (token_fits_so t))) b d m)
-bounded (suc n) (Non x ∷ symbols) v w ts events ds f b (r, i, a, d) m =
-    by_row x r symbols v w ds i (bounded n (r.symbols ++ symbols) v w ts events ds (row_fits x r v symbols i a f.0 f.1) b d m)
-bounded (suc n) (Do a ∷ symbols) v w ts events ds f b d m =
+bounded zero (s ∷ symbols) v w ts events ds f b g d m = absurd d
+bounded (suc n) [] v w ts events ds f b g d m = absurd d
+bounded (suc n) (Tok k ∷ symbols) v w ts events ds f b g (t, rest, e, kind, d) m =
+    subst (λ (l : List Token). Bounds (Tok k ∷ symbols) v w l ds) (sym e)
+        (by_token t k symbols v w rest ds
+            (bounded n symbols (PToken t ∷ v) w rest events ds (f (entry_of (PToken t)) (subst (λ (m : ℕ). fits (token_kind m) (entry_of (PToken t)) ≡ true) kind (token_fits_so t))) b (tt, g) d m))
+bounded (suc n) (Non x ∷ symbols) v w ts events ds f b g (r, i, a, d) m =
+    by_row x r symbols v w ts ds i (bounded n (r.symbols ++ symbols) v w ts events ds (row_fits x r v symbols i a f.0 f.1) b g d m)
+bounded (suc n) (Do a ∷ symbols) v w ts events ds f b g d m =
     let kept = effects_kept a v (effect f.0 f.1) f.2 in
     let put : built (f.1 ++ events) ≡ Some (outlines_of (act a v)) = built_more f.1 events ∙ ap (after_all f.1) b ∙ kept.1 in
-    by_action a symbols v w f.0 f.1 events ds f.2 b put kept.0 (bounded n symbols (act a v) w ts (f.1 ++ events) ds (subst (Fit symbols) (sym kept.0) f.3) put d m)
+    by_action a symbols v w f.0 f.1 events ts ds g f.2 b put kept.0 (bounded n symbols (act a v) w ts (f.1 ++ events) ds (subst (Fit symbols) (sym kept.0) f.3) put (parts_begin a v g) d m)

@@ -26,5 +26,5 @@ whole_stands at body =
 pub lower_law : LowerLaw
 lower_law front more symbols v body asks f m k e =
     let y = (completion_law front symbols v f).0 more body m in
-    let b = bounded y.0 symbols v (finished body) more f.events (Whole 0 ∷ []) f.fit f.put y.1 refl in
+    let b = bounded y.0 symbols v (finished body) more f.events (Whole 0 ∷ []) f.fit f.put f.begun y.1 refl in
     (b.demands, b.many, b.no_less (AtLeast 0 ∷ []) asks (omega arith, tt) k e, λ at. (let s = b.stand at in let w = whole_stands at body in omega arith))

@@ -19,6 +19,7 @@ use Rattle.py_nesting.proofs.EffectsKept.{effects_kept}
 use Rattle.py_fronts.specs.Kinds.{fits, token_kind}
 use Rattle.py_fronts.specs.Fit.{Fit}
 use Rattle.py_fronts.specs.AtFront.{AtFront, CompletionLaw}
+use Rattle.py_fronts.proofs.PartsBegin.{parts_begin}
 use Rattle.py_fronts.proofs.TableFits.{row_fits}
 use Rattle.py_fronts.proofs.DerivedFit.{token_fits_so, start_law}
 
@@ -51,7 +52,7 @@ longer zero n symbols v ts w h = let e : zero + n ≡ n = omega arith in rw e h
 longer (suc k) n symbols v ts w h = let e : suc k + n ≡ suc (k + n) = omega arith in rw e (one_longer (k + n) symbols v ts w (longer k n symbols v ts w h))
 
 pub at_beginning : (front : List Token) → AtFront front front goal start
-at_beginning front = record { steps = 0; goes = λ more n. (let e : 0 + n ≡ n = omega arith in rw e refl); derives = λ more w y. y; fit = start_law; events = []; put = refl }
+at_beginning front = record { steps = 0; goes = λ more n. (let e : 0 + n ≡ n = omega arith in rw e refl); derives = λ more w y. y; fit = start_law; events = []; put = refl; begun = tt }
 
 pub built_more : (more events : List Event) → built (more ++ events) ≡ after_all more (built events)
 built_more [] events = refl
@@ -71,6 +72,7 @@ over_action front ahead a symbols v f =
       fit = subst (Fit symbols) (sym kept.0) f.fit.3;
       events = f.fit.1 ++ f.events;
       put = built_more f.fit.1 f.events ∙ ap (after_all f.fit.1) f.put ∙ kept.1;
+      begun = parts_begin a v f.begun;
     }
 
 pub over_token : (front ahead : List Token) (t : Token) (k : ℕ) (symbols : List Symbol) (v : Parts) → kind_of t ≡ k → (kind_of t == k) ≡ true
@@ -83,6 +85,7 @@ over_token front ahead t k symbols v e same f =
       fit = f.fit (entry_of (PToken t)) (subst (λ (m : ℕ). fits (token_kind m) (entry_of (PToken t)) ≡ true) e (token_fits_so t));
       events = f.events;
       put = f.put;
+      begun = (tt, f.begun);
     }
 
 pub over_row : (front ahead : List Token) (t : Token) (x : Nonterminal) (r : Row Nonterminal Action Parts) (symbols : List Symbol) (v : Parts)
@@ -96,6 +99,7 @@ over_row front ahead t x r symbols v e i a f =
       fit = row_fits x r v symbols i a f.fit.0 f.fit.1;
       events = f.events;
       put = f.put;
+      begun = f.begun;
     }
 
 pub completion_law : CompletionLaw

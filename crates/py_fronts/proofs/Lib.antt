@@ -1,4 +1,6 @@
 mod SubKinds
+pub mod TreesBegin
+pub mod PartsBegin
 mod ActionsFit
 pub mod RowsFit
 pub mod TableFits

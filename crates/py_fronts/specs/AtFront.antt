@@ -13,6 +13,7 @@ use Rattle.py_nesting.specs.Depths.{body_depth}
 use Rattle.py_nesting.specs.Outlines.{Event, built}
 use Rattle.py_nesting.specs.Shapes.{entries_of, outlines_of}
 use Rattle.py_nesting.specs.Walk.{Demand, Whole, back, Met, brought, walk, met_depth}
+use Rattle.py_fronts.specs.Begins.{Begin}
 use Rattle.py_fronts.specs.Fit.{Fit}
 
 -- So many steps lead over the first of these tokens to those ahead, whatever comes behind them, and leave these symbols and parts;
@@ -25,6 +26,7 @@ pub record AtFront (front ahead : List Token) (symbols : List Symbol) (v : Parts
   -- how the nodes of these parts were put together
   pub events : List Event
   pub put : built events ≡ Some (outlines_of v)
+  pub begun : Begin v
 
 -- the modules that begin with a front are what is derived from there
 abbrev pub CompletionLaw : Type 0

@@ -1,3 +1,4 @@
 pub mod Kinds
 pub mod Fit
+pub mod Begins
 pub mod AtFront
