@@ -64,7 +64,7 @@ not_asked_there at (Inside n) p h = raised_nothing n 0 refl
 not_asked_there at (Assigned n) p h = let e : here (at p) ≡ 0 = ap here h in raised_nothing n (max (here (at p)) 0) (omega arith)
 not_asked_there at (InsideAssigned n) p h = raised_nothing n 0 refl
 
-token_avoided : (at : Place → Bool) (d : Demand) (t : Token) → at (place_of t) ≡ false → entry_depth at d (entry_of (PToken t)) ≡ 0
+pub token_avoided : (at : Place → Bool) (d : Demand) (t : Token) → at (place_of t) ≡ false → entry_depth at d (entry_of (PToken t)) ≡ 0
 token_avoided at d (At p k) h = not_asked_there at d p h
 
 by_token : (t : Token) (k : ℕ) (symbols : List Symbol) (v w : Parts) (ts : List Token) (ds : List Demand) → Bounds symbols (PToken t ∷ v) w ts ds → Bounds (Tok k ∷ symbols) v w (t ∷ ts) ds
@@ -91,6 +91,19 @@ by_token t k symbols v w ts ds b = go b.demands b.many b.stand b.stand_so b.no_l
         rest_of qs bs h a (Some []) o e = absurd (cc)
         rest_of qs bs h a (Some (r ∷ rs)) o e = subst (λ (l : List Ask). AreAtMost l these) (some_is rs bs e) (no_less qs (r ∷ rs) h a o).1
 
+-- behind an action nodes stand no deeper than what it asks of the parts before it tells
+pub stands_behind : (at : Place → Bool) (a : Action) (v : Parts) (new : List Entry) (more events : List Event) (ds : List Demand) → Begin v → effect_of a (entries_of v) ≡ Some (effect new more)
+    → built events ≡ Some (outlines_of v) → built (more ++ events) ≡ Some (outlines_of (act a v)) → entries_of (act a v) ≡ new → standing at (act a v) ds ≤ standing at v (asked_before a ds)
+stands_behind at a v new more events ds begun e b c same =
+    let t = tied a (entries_of v) (effect new more) e ds in
+    let tokens = t.3 at in
+    let starts = starts_below a v at ds new more begun e in
+    let old : depth_of at (outlines_of v) (asked more (of_outlines new ds)) ≡ depth_of at (outlines_of v) (of_outlines (entries_of v) (asked_before a ds)) = ap (depth_of at (outlines_of v)) t.0 in
+    let behind = outlines_behind at v (act a v) more events (of_outlines new ds) b c in
+    let names : tokens_depth at (entries_of (act a v)) ds ≡ tokens_depth at new ds = ap (λ (es : List Entry). tokens_depth at es ds) same in
+    let outlines : depth_of at (outlines_of (act a v)) (of_outlines (entries_of (act a v)) ds) ≡ depth_of at (outlines_of (act a v)) (of_outlines new ds) =
+    ap (λ (es : List Entry). depth_of at (outlines_of (act a v)) (of_outlines es ds)) same in omega arith
+
 by_action : (a : Action) (symbols : List Symbol) (v w : Parts) (new : List Entry) (more events : List Event) (ts : List Token) (ds : List Demand) → Begin v → effect_of a (entries_of v) ≡ Some (effect new more)
     → built events ≡ Some (outlines_of v) → built (more ++ events) ≡ Some (outlines_of (act a v)) → entries_of (act a v) ≡ new → Bounds symbols (act a v) w ts ds → Bounds (Do a ∷ symbols) v w ts ds
 by_action a symbols v w new more events ts ds begun e b c same r =
@@ -98,16 +111,7 @@ by_action a symbols v w new more events ts ds begun e b c same r =
     record {
       demands = asked_before a r.demands;
       many = t.2 (r.many ∙ ap length same);
-      stand_so = λ at h. (
-          let tokens = t.3 at in
-          let starts = starts_below a v at r.demands new more begun e in
-          let old : depth_of at (outlines_of v) (asked more (of_outlines new r.demands)) ≡ depth_of at (outlines_of v) (of_outlines (entries_of v) (asked_before a r.demands)) = ap (depth_of at (outlines_of v)) t.0 in
-          let behind = outlines_behind at v (act a v) more events (of_outlines new r.demands) b c in
-          let names : tokens_depth at (entries_of (act a v)) r.demands ≡ tokens_depth at new r.demands = ap (λ (es : List Entry). tokens_depth at es r.demands) same in
-          let outlines : depth_of at (outlines_of (act a v)) (of_outlines (entries_of (act a v)) r.demands) ≡ depth_of at (outlines_of (act a v)) (of_outlines new r.demands) =
-          ap (λ (es : List Entry). depth_of at (outlines_of (act a v)) (of_outlines es r.demands)) same in
-          let s = r.stand_so at h in omega arith
-          );
+      stand_so = λ at h. (let o = stands_behind at a v new more events r.demands begun e b c same in let s = r.stand_so at h in omega arith);
       stand = λ at. (
           let tokens = t.1 at in
           let old : depth_of at (outlines_of v) (asked more (of_outlines new r.demands)) ≡ depth_of at (outlines_of v) (of_outlines (entries_of v) (asked_before a r.demands)) = ap (depth_of at (outlines_of v)) t.0 in

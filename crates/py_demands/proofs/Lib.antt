@@ -5,3 +5,5 @@ mod LowRows
 mod StartsBelow
 mod Bounded
 mod Lower
+mod RowsClose
+mod Closed

@@ -3,3 +3,4 @@ pub mod Asks
 pub mod Least
 pub mod AtMost
 pub mod Bound
+pub mod Closing
