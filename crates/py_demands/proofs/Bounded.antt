@@ -104,6 +104,18 @@ stands_behind at a v new more events ds begun e b c same =
     let outlines : depth_of at (outlines_of (act a v)) (of_outlines (entries_of (act a v)) ds) ≡ depth_of at (outlines_of (act a v)) (of_outlines new ds) =
     ap (λ (es : List Entry). depth_of at (outlines_of (act a v)) (of_outlines es ds)) same in omega arith
 
+-- and no less deep
+pub stands_before : (at : Place → Bool) (a : Action) (v : Parts) (new : List Entry) (more events : List Event) (ds : List Demand) → effect_of a (entries_of v) ≡ Some (effect new more)
+    → built events ≡ Some (outlines_of v) → built (more ++ events) ≡ Some (outlines_of (act a v)) → entries_of (act a v) ≡ new → standing at v (asked_before a ds) ≤ standing at (act a v) ds
+stands_before at a v new more events ds e b c same =
+    let t = tied a (entries_of v) (effect new more) e ds in
+    let tokens = t.1 at in
+    let old : depth_of at (outlines_of v) (asked more (of_outlines new ds)) ≡ depth_of at (outlines_of v) (of_outlines (entries_of v) (asked_before a ds)) = ap (depth_of at (outlines_of v)) t.0 in
+    let behind = outlines_behind at v (act a v) more events (of_outlines new ds) b c in
+    let names : tokens_depth at (entries_of (act a v)) ds ≡ tokens_depth at new ds = ap (λ (es : List Entry). tokens_depth at es ds) same in
+    let outlines : depth_of at (outlines_of (act a v)) (of_outlines (entries_of (act a v)) ds) ≡ depth_of at (outlines_of (act a v)) (of_outlines new ds) =
+    ap (λ (es : List Entry). depth_of at (outlines_of (act a v)) (of_outlines es ds)) same in omega arith
+
 by_action : (a : Action) (symbols : List Symbol) (v w : Parts) (new : List Entry) (more events : List Event) (ts : List Token) (ds : List Demand) → Begin v → effect_of a (entries_of v) ≡ Some (effect new more)
     → built events ≡ Some (outlines_of v) → built (more ++ events) ≡ Some (outlines_of (act a v)) → entries_of (act a v) ≡ new → Bounds symbols (act a v) w ts ds → Bounds (Do a ∷ symbols) v w ts ds
 by_action a symbols v w new more events ts ds begun e b c same r =
@@ -112,15 +124,7 @@ by_action a symbols v w new more events ts ds begun e b c same r =
       demands = asked_before a r.demands;
       many = t.2 (r.many ∙ ap length same);
       stand_so = λ at h. (let o = stands_behind at a v new more events r.demands begun e b c same in let s = r.stand_so at h in omega arith);
-      stand = λ at. (
-          let tokens = t.1 at in
-          let old : depth_of at (outlines_of v) (asked more (of_outlines new r.demands)) ≡ depth_of at (outlines_of v) (of_outlines (entries_of v) (asked_before a r.demands)) = ap (depth_of at (outlines_of v)) t.0 in
-          let behind = outlines_behind at v (act a v) more events (of_outlines new r.demands) b c in
-          let names : tokens_depth at (entries_of (act a v)) r.demands ≡ tokens_depth at new r.demands = ap (λ (es : List Entry). tokens_depth at es r.demands) same in
-          let outlines : depth_of at (outlines_of (act a v)) (of_outlines (entries_of (act a v)) r.demands) ≡ depth_of at (outlines_of (act a v)) (of_outlines new r.demands) =
-          ap (λ (es : List Entry). depth_of at (outlines_of (act a v)) (of_outlines es r.demands)) same in
-          let s = r.stand at in omega arith
-          );
+      stand = λ at. (let o = stands_before at a v new more events r.demands e b c same in let s = r.stand at in omega arith);
       no_less = λ qs bs h k f. kept qs bs h k (least symbols (Some qs)) refl f;
     }
   where

@@ -29,16 +29,20 @@ use Rattle.py_demands.specs.Closing.{closing, asks_exactly, exactly_by, exactly_
 use Rattle.py_demands.specs.Bound.{standing}
 use Rattle.py_demands.proofs.EffectsTied.{tied}
 use Rattle.py_demands.proofs.AsksKept.{some_is}
-use Rattle.py_demands.proofs.Bounded.{stands_behind, token_avoided}
+use Rattle.py_demands.proofs.Bounded.{stands_before, stands_behind, token_avoided}
 use Rattle.py_demands.proofs.RowsClose.{is_row, closes, closed_below, closed_by_specimens}
 
+-- nodes stand behind as deep as before, but for those at this place
+abbrev pub Same : (Place → Bool) → Place → Parts → List Demand → Parts → List Demand → Type 0
+Same at p w ds v us = (standing at v us ≤ standing at w ds) × (at p ≡ false → standing at w ds ≤ standing at v us)
+
 -- what symbols lead to, where it is known what comes behind them
-abbrev Leads : Place → List Symbol → Parts → Parts → Type 0
+abbrev pub Leads : Place → List Symbol → Parts → Parts → Type 0
 Leads p symbols v w =
     (more : List Symbol) (events : List Event) → Fit (symbols ++ more) (entries_of v) → built events ≡ Some (outlines_of v) → Begin v
     → Fit more (entries_of w) × ((later : List Event) × (built later ≡ Some (outlines_of w))) × Begin w
     × ((ds us : List Demand) → length ds ≡ length (entries_of w) → exactly symbols (Some ds) ≡ Some us
-    → (length us ≡ length (entries_of v)) × ((at : Place → Bool) → at p ≡ false → standing at w ds ≤ standing at v us))
+    → (length us ≡ length (entries_of v)) × ((at : Place → Bool) → Same at p w ds v us))
 
 pub record Closed (p : Place) (symbols : List Symbol) (v : Parts) : Type 0 where
   pub tokens : List Token
@@ -53,7 +57,7 @@ exact_is a [] us e = absurd (cc)
 exact_is a (d ∷ ds) us e = sym (some_is _ us e)
 
 nothing_leads : (p : Place) (v : Parts) → Leads p [] v v
-nothing_leads p v more events f b g = (f, (events, b), g, λ ds us m e. let same : ds ≡ us = some_is ds us e in subst (λ (x : List Demand). (length x ≡ length (entries_of v)) × ((at : Place → Bool) → at p ≡ false → standing at v ds ≤ standing at v x)) same (m, λ at h. omega arith))
+nothing_leads p v more events f b g = (f, (events, b), g, λ ds us m e. let same : ds ≡ us = some_is ds us e in subst (λ (x : List Demand). (length x ≡ length (entries_of v)) × ((at : Place → Bool) → Same at p v ds v x)) same (m, λ at. ((omega arith), λ h. omega arith)))
 
 token_leads : (p : Place) (k : ℕ) (symbols : List Symbol) (v w : Parts) → kind_of (At p (kind_at k)) ≡ k → Leads p symbols (PToken (At p (kind_at k)) ∷ v) w → Leads p (Tok k ∷ symbols) v w
 token_leads p k symbols v w kind l more events f b g =
@@ -63,15 +67,15 @@ token_leads p k symbols v w kind l more events f b g =
   where
     before : (ds us : List Demand) (o : Option (List Demand)) → exactly symbols (Some ds) ≡ o → exactly_before (Tok k) o ≡ Some us
         → ((us : List Demand) → length ds ≡ length (entries_of w) → exactly symbols (Some ds) ≡ Some us
-        → (length us ≡ length (entries_of (PToken (At p (kind_at k)) ∷ v))) × ((at : Place → Bool) → at p ≡ false → standing at w ds ≤ standing at (PToken (At p (kind_at k)) ∷ v) us))
-        → length ds ≡ length (entries_of w) → (length us ≡ length (entries_of v)) × ((at : Place → Bool) → at p ≡ false → standing at w ds ≤ standing at v us)
+        → (length us ≡ length (entries_of (PToken (At p (kind_at k)) ∷ v))) × ((at : Place → Bool) → Same at p w ds (PToken (At p (kind_at k)) ∷ v) us))
+        → length ds ≡ length (entries_of w) → (length us ≡ length (entries_of v)) × ((at : Place → Bool) → Same at p w ds v us)
     before ds us None o e r m = absurd (cc)
     before ds us (Some []) o e r m = absurd (cc)
     before ds us (Some (d ∷ these)) o e r m =
         let same : these ≡ us = some_is these us e in
         let s = r (d ∷ these) m o in
-        subst (λ (x : List Demand). (length x ≡ length (entries_of v)) × ((at : Place → Bool) → at p ≡ false → standing at w ds ≤ standing at v x)) same
-            ((let n = s.0 in omega arith), λ at h. (let n = s.1 at h in let none = token_avoided at d (At p (kind_at k)) h in omega arith))
+        subst (λ (x : List Demand). (length x ≡ length (entries_of v)) × ((at : Place → Bool) → Same at p w ds v x)) same
+            ((let n = s.0 in omega arith), λ at. ((let n = (s.1 at).0 in omega arith), λ h. (let n = (s.1 at).1 h in let none = token_avoided at d (At p (kind_at k)) h in omega arith)))
 
 action_leads : (p : Place) (a : Action) (symbols : List Symbol) (v w : Parts) → Leads p symbols (act a v) w → Leads p (Do a ∷ symbols) v w
 action_leads p a symbols v w l more events f b g =
@@ -82,15 +86,18 @@ action_leads p a symbols v w l more events f b g =
   where
     before : built (f.1 ++ events) ≡ Some (outlines_of (act a v)) → entries_of (act a v) ≡ f.0 → (ds us : List Demand) (o : Option (List Demand)) → exactly symbols (Some ds) ≡ o → exactly_before (Do a) o ≡ Some us
         → ((us : List Demand) → length ds ≡ length (entries_of w) → exactly symbols (Some ds) ≡ Some us
-        → (length us ≡ length (entries_of (act a v))) × ((at : Place → Bool) → at p ≡ false → standing at w ds ≤ standing at (act a v) us))
-        → length ds ≡ length (entries_of w) → (length us ≡ length (entries_of v)) × ((at : Place → Bool) → at p ≡ false → standing at w ds ≤ standing at v us)
+        → (length us ≡ length (entries_of (act a v))) × ((at : Place → Bool) → Same at p w ds (act a v) us))
+        → length ds ≡ length (entries_of w) → (length us ≡ length (entries_of v)) × ((at : Place → Bool) → Same at p w ds v us)
     before put same ds us None o e r m = absurd (cc)
     before put same ds us (Some these) o e r m =
         let is : us ≡ asked_before a these = exact_is a these us e in
         let s = r these m o in
         let t = tied a (entries_of v) (effect f.0 f.1) f.2 these in
-        subst (λ (x : List Demand). (length x ≡ length (entries_of v)) × ((at : Place → Bool) → at p ≡ false → standing at w ds ≤ standing at v x)) (sym is)
-            (t.2 (s.0 ∙ ap length same), λ at h. (let n = s.1 at h in let o = stands_behind at a v f.0 f.1 events these g f.2 b put same in omega arith))
+        subst (λ (x : List Demand). (length x ≡ length (entries_of v)) × ((at : Place → Bool) → Same at p w ds v x)) (sym is)
+            (t.2 (s.0 ∙ ap length same), λ at. (
+                (let n = (s.1 at).0 in let o = stands_before at a v f.0 f.1 events these f.2 b put same in omega arith),
+                λ h. (let n = (s.1 at).1 h in let o = stands_behind at a v f.0 f.1 events these g f.2 b put same in omega arith),
+                ))
 
 rows_lead : (p : Place) (x : Nonterminal) (symbols : List Symbol) (v u w : Parts) → Leads p (closing x) v u → Leads p symbols u w → Leads p (Non x ∷ symbols) v w
 rows_lead p x symbols v u w l k more events f b g =
@@ -101,16 +108,16 @@ rows_lead p x symbols v u w l k more events f b g =
   where
     before : (ds us : List Demand) (o : Option (List Demand)) → exactly symbols (Some ds) ≡ o → exactly_before (Non x) o ≡ Some us
         → ((us : List Demand) → length ds ≡ length (entries_of w) → exactly symbols (Some ds) ≡ Some us
-        → (length us ≡ length (entries_of u)) × ((at : Place → Bool) → at p ≡ false → standing at w ds ≤ standing at u us))
+        → (length us ≡ length (entries_of u)) × ((at : Place → Bool) → Same at p w ds u us))
         → ((ds us : List Demand) → length ds ≡ length (entries_of u) → exactly (closing x) (Some ds) ≡ Some us
-        → (length us ≡ length (entries_of v)) × ((at : Place → Bool) → at p ≡ false → standing at u ds ≤ standing at v us))
-        → length ds ≡ length (entries_of w) → (length us ≡ length (entries_of v)) × ((at : Place → Bool) → at p ≡ false → standing at w ds ≤ standing at v us)
+        → (length us ≡ length (entries_of v)) × ((at : Place → Bool) → Same at p u ds v us))
+        → length ds ≡ length (entries_of w) → (length us ≡ length (entries_of v)) × ((at : Place → Bool) → Same at p w ds v us)
     before ds us None o e s r m = absurd (cc)
     before ds us (Some []) o e s r m = absurd (cc)
     before ds us (Some (d ∷ these)) o e s r m =
         let behind = s (d ∷ these) m o in
         let front = r (d ∷ these) us behind.0 (closes x d these ∙ e) in
-        (front.0, λ at h. (let n = behind.1 at h in let i = front.1 at h in omega arith))
+        (front.0, λ at. ((let n = (behind.1 at).0 in let i = (front.1 at).0 in omega arith), λ h. (let n = (behind.1 at).1 h in let i = (front.1 at).1 h in omega arith)))
 
 below_less : (m n : ℕ) (symbols : List Symbol) → m ≤ n → are_below sets m symbols ≡ true → are_below sets n symbols ≡ true
 below_less m n [] l h = refl

@@ -7,3 +7,4 @@ mod Bounded
 mod Lower
 mod RowsClose
 mod Closed
+mod Ways

@@ -17,7 +17,7 @@ from_the_top : (n : ℕ) → raise 0 n ≡ n
 from_the_top zero = refl
 from_the_top (suc n) = omega arith
 
-whole_stands : (at : Place → Bool) (body : Body) → standing at (finished body) (Whole 0 ∷ []) ≡ body_depth at body
+pub whole_stands : (at : Place → Bool) (body : Body) → standing at (finished body) (Whole 0 ∷ []) ≡ body_depth at body
 whole_stands at body =
     let top : raise 0 (outline_depth at (body_outline body)) ≡ outline_depth at (body_outline body) = from_the_top (outline_depth at (body_outline body)) in
     let whole : outline_depth at (body_outline body) ≡ body_depth at body = outline_law at body in
@@ -27,4 +27,4 @@ pub lower_law : LowerLaw
 lower_law front more symbols v body asks f m k e =
     let y = (completion_law front symbols v f).0 more body m in
     let b = bounded y.0 symbols v (finished body) more f.events (Whole 0 ∷ []) f.fit f.put f.begun y.1 refl in
-    (b.demands, b.many, b.no_less (AtLeast 0 ∷ []) asks (omega arith, tt) k e, λ at. (let s = b.stand at in let w = whole_stands at body in omega arith))
+    (b.demands, b.many, b.no_less (AtLeast 0 ∷ []) asks (omega arith, tt) k e, λ at. ((let s = b.stand at in let w = whole_stands at body in omega arith), λ h. (let s = b.stand_so at h in let w = whole_stands at body in omega arith)))

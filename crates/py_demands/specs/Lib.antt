@@ -4,3 +4,4 @@ pub mod Least
 pub mod AtMost
 pub mod Bound
 pub mod Closing
+pub mod Behind

@@ -1,13 +1,18 @@
 //! What is asked of the parts that stand behind a front of the tokens, whatever comes behind it.
 //!
 //! `specs/Roles.antt` says of each action what it asks of the parts that it takes, by what is asked of the part that it leaves, and
-//! `specs/Least.antt` what each nonterminal asks at least. The function below has no body: it carries a law.
+//! `specs/Least.antt` what each nonterminal asks at least. The functions below have no body: they carry laws.
 #![tactic(auto)]
 
-ghost use Rattle.py_demands.specs.Bound.{LowerLaw};
+ghost use Rattle.py_demands.specs.Bound.{LowerLaw, ClosingLaw};
 
-/// In each module that begins with a front, the nodes of the parts behind it, and those that come to stand at their tokens, have at
-/// least the depths that the symbols ask.
+/// In each module that begins with a front, the nodes of the parts behind it, and those that come to stand at their tokens, have the
+/// depths that demands tell which are no less than what the symbols ask.
 pub fn nodes_stand_as_deep_as_symbols_ask()
     ensures law { LowerLaw }
+{}
+
+/// A front is closed by tokens at any place to a module in which those nodes have just the depths that the closing symbols ask.
+pub fn closing_symbols_give_a_module()
+    ensures law { ClosingLaw }
 {}
