@@ -6,8 +6,8 @@
 use py_lexer::lex;
 use py_lexer::refusal::LexRefusal;
 use py_lexer::token::Token;
-use py_parser::parse;
 use py_outside::construct::Construct;
+use py_parser::parse;
 use py_recogniser::refusal::ParseRefusal;
 use shed_base::{Folder, Names, Place, RealFolder, Width};
 use std::alloc::Global;

@@ -1,5 +1,5 @@
 -- Where a construct stands, the front goes on with what stands for its phrase.
-use Rattle.std.proofs.Common.{◌≡◌, ℕ, zero, suc, ◌+◌, ◌<◌, ◌≤◌, Bool, true, ◌&&◌, List, [], ◌∷◌, ◌++◌, length, Some, ◌⊎◌, inl, inr, refl, sym, ap, ◌∙◌, subst, append_assoc, append-nil, arith}
+use Rattle.std.proofs.Common.{◌≡◌, ℕ, zero, suc, ◌+◌, ◌<◌, ◌≤◌, true, List, [], ◌∷◌, ◌++◌, length, Some, ◌⊎◌, inl, inr, refl, sym, ap, ◌∙◌, subst, append_assoc, append-nil, arith}
 use Rattle.std.proofs.lemmas.List.{length-append}
 use Rattle.grammars.proofs.Bools.{and_left, and_right}
 use Rattle.py_tokens.specs.Token.{Place}
@@ -60,14 +60,14 @@ causes c done [] t left more (Phrase ts n those ∷ pieces) body head o none e p
         let same : u ≡ t = first_of u t _ _ (sym (ap (λ (l : List Token). l ++ tokens_of pieces) z) ∙ e) in
         let front : IsFrontOfModule (done ++ At (place_of u) kind ∷ []) = front_with done (At (place_of u) kind ∷ []) (in_profile pieces) body (subst (λ (l : List Token). IsModule body (done ++ (l ++ in_profile pieces))) f m) in
         Here kind (sym (ap (λ (x : Token). stand_in (kind_of x)) same) ∙ s) (omega arith)
-            (subst (λ (x : Token). IsFrontOfModule ((done ++ []) ++ At (place_of x) kind ∷ [])) same (subst (λ (l : List Token). IsFrontOfModule (l ++ At (place_of u) kind ∷ [])) (sym (append-nil done)) front))
+        (subst (λ (x : Token). IsFrontOfModule ((done ++ []) ++ At (place_of x) kind ∷ [])) same (subst (λ (l : List Token). IsFrontOfModule (l ++ At (place_of u) kind ∷ [])) (sym (append-nil done)) front))
     begun (BehindText q s place others z y i f) =
         let spelt : At q (TText s) ∷ (At place TFormatted ∷ (others ++ tokens_of pieces)) ≡ t ∷ (left ++ more) = sym (ap (λ (l : List Token). l ++ tokens_of pieces) y) ∙ e in
         let front : IsFrontOfModule (done ++ At place (TNumber 0) ∷ []) = front_with done (At place (TNumber 0) ∷ []) (in_profile pieces) body (subst (λ (l : List Token). IsModule body (done ++ (l ++ in_profile pieces))) f m) in
         let two : length ts ≡ suc (suc (length others)) = ap length y in
         let far : 1 ≤ head = head_behind head 1 ts (HasHead pieces) (subst (λ (n : ℕ). (head ≡ n) ⊎ ((k : ℕ) × (head ≡ length ts + k) × HasHead pieces k)) i h) (omega arith) in
         next left (rest_of _ t _ (left ++ more) spelt) (omega arith) (first_of _ t _ _ spelt)
-            (subst (λ (l : List Token). IsFrontOfModule (l ++ At place (TNumber 0) ∷ [])) (sym (append-nil done)) front) far z
+        (subst (λ (l : List Token). IsFrontOfModule (l ++ At place (TNumber 0) ∷ [])) (sym (append-nil done)) front) far z
       where
         next : (behind : List Token) → At place TFormatted ∷ (others ++ tokens_of pieces) ≡ behind ++ more → 1 ≤ length behind → At q (TText s) ≡ t → IsFrontOfModule ((done ++ []) ++ At place (TNumber 0) ∷ [])
             → 1 ≤ head → c ≡ FormattedText → Cause c head 0 (done ++ []) t behind
@@ -80,8 +80,8 @@ causes c done (a ∷ before) t left more (Own u ∷ pieces) body (suc head) o no
     let joined : (done ++ a ∷ []) ++ before ≡ done ++ a ∷ before = append_assoc done (a ∷ []) before in
     let found : Cause c head (length before) ((done ++ a ∷ []) ++ before) t left =
     causes c (done ++ a ∷ []) before t left more pieces body head (and_right (is_own (kind_of a)) (are_own before) o)
-        (λ f. none (subst (λ (l : List Token). IsFrontOfModule (l ++ t ∷ [])) joined f)) (rest_of u a _ _ e) p
-        (subst (λ (l : List Token). IsModule body l) (sym (append_assoc done (a ∷ []) (in_profile pieces))) (subst (λ (x : Token). IsModule body (done ++ x ∷ in_profile pieces)) same m)) h (omega arith) in
+    (λ f. none (subst (λ (l : List Token). IsFrontOfModule (l ++ t ∷ [])) joined f)) (rest_of u a _ _ e) p
+    (subst (λ (l : List Token). IsModule body l) (sym (append_assoc done (a ∷ []) (in_profile pieces))) (subst (λ (x : Token). IsModule body (done ++ x ∷ in_profile pieces)) same m)) h (omega arith) in
     one_on c head (length before) (done ++ a ∷ before) t left (subst (λ (l : List Token). Cause c head (length before) l t left) joined found)
 causes c done (a ∷ before) t left more (Phrase ts n those ∷ pieces) body head o none e p m h k = begun (phrase_begins c ts n those p.0)
   where

@@ -1,5 +1,5 @@
 -- Modules of the profile have none of the tokens at which the constructs are told.
-use Rattle.std.proofs.Common.{◌≡◌, ℕ, zero, suc, Bool, true, false, not, ◌&&◌, ◌||◌, ◌==◌, List, [], ◌∷◌, ◌++◌, inl, inr, refl, sym, ap, ◌∙◌, subst}
+use Rattle.std.proofs.Common.{◌≡◌, ℕ, zero, suc, Bool, true, not, ◌&&◌, ◌||◌, ◌==◌, List, [], ◌∷◌, ◌++◌, inl, inr, refl, ap, ◌∙◌}
 use Rattle.grammars.specs.Grammar.{Tok, Non, Do, Row, IsRow}
 use Rattle.grammars.specs.Derivation.{Derives}
 use Rattle.grammars.proofs.Bools.{and_left, and_right, both}

@@ -10,7 +10,7 @@ use Rattle.py_constructs.specs.Construct.{Construct, FormattedText, construct_or
 use Rattle.py_constructs.specs.Phrases.{IsPhrase}
 use Rattle.py_constructs.specs.StandIns.{StandIn, instead, stand_in}
 use Rattle.py_constructs.specs.Outside.{StandsAt, IsTold, place_at}
-use Rattle.py_constructs.specs.Trials.{BeginsHere, IsJoined, IsNext, HereLaw, JoinedLaw, NextLaw, NoneLaw, EndLaw}
+use Rattle.py_constructs.specs.Trials.{HereLaw, JoinedLaw, NextLaw, NoneLaw, EndLaw}
 use Rattle.py_constructs.proofs.OwnTokens.{front_own}
 use Rattle.py_constructs.proofs.Standing.{stands}
 use Rattle.py_constructs.proofs.Causes.{Cause, Here, Joined, Next, cause}
@@ -152,7 +152,7 @@ pub none_by_kind : (before : List Token) (t : Token) (rest : List Token) → IsL
     → IsTold (before ++ t ∷ rest) (length before) None
 none_by_kind before (At p k) rest l h e =
     none_law before (At p k) rest l (λ c m s f. absurd_some (sym h ∙ s)) (λ (q, s, r, earlier, b, i, f). absurd_some (sym h ∙ ap (λ (x : Token). stand_in (kind_of x)) i))
-        (λ r (q, s, later, i, z, f). let both : true ≡ false = sym (ap begins_formatted z) ∙ e in cc)
+    (λ r (q, s, later, i, z, f). let both : true ≡ false = sym (ap begins_formatted z) ∙ e in cc)
   where
     absurd_some : {s : StandIn} → None ≡ Some s → ⊥
     absurd_some g = absurd (cc)
@@ -174,4 +174,4 @@ pub none_behind : (front rest : List Token) → IsLongestFront front rest → is
 none_behind front [] l h = subst (λ (ts : List Token). IsTold ts (length front) None) (sym (append-nil front)) (end_law front)
 none_behind front (t ∷ rest) l h =
     none_by_kind front t rest l (none_so (stand_in (kind_of t)) (and_left (is_none (stand_in (kind_of t))) (not (begins_formatted rest)) h))
-        (not_false (begins_formatted rest) (and_right (is_none (stand_in (kind_of t))) (not (begins_formatted rest)) h))
+    (not_false (begins_formatted rest) (and_right (is_none (stand_in (kind_of t))) (not (begins_formatted rest)) h))

@@ -1,5 +1,5 @@
 -- What is tried at the first token with which no front of a module goes on: whether a front goes on with what stands for a phrase.
-use Rattle.std.specs.Prelude.{◌≡◌, ℕ, List, [], ◌∷◌, ◌++◌, length, Option, Some, None}
+use Rattle.std.specs.Prelude.{◌≡◌, ℕ, List, [], ◌∷◌, ◌++◌, length, Some, None}
 use Rattle.py_tokens.specs.Token.{Place}
 use Rattle.py_syntax.specs.Token.{Kind, TNumber, TText, TFormatted, Token, At}
 use Rattle.py_syntax.specs.Kinds.{kind_of}

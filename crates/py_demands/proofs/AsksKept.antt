@@ -1,9 +1,9 @@
 -- What asks no more than something still does after it was changed.
-use Rattle.std.proofs.Common.{◌≡◌, ℕ, zero, suc, ◌≤◌, Bool, true, false, ◌&&◌, List, [], ◌∷◌, ◌++◌, map, Option, Some, None, ◌⊎◌, inl, inr, refl, sym, ap, ◌∙◌, subst, arith}
+use Rattle.std.proofs.Common.{◌≡◌, ℕ, zero, suc, ◌≤◌, true, List, [], ◌∷◌, ◌++◌, map, Some, None, ◌⊎◌, inl, inr, refl, sym, ap, ◌∙◌, subst, arith}
 use Rattle.grammars.proofs.Bools.{and_left, and_right}
 use Rattle.py_syntax.specs.Build.{Action, Drop}
 use Rattle.py_nesting.specs.Outlines.{Label, Plain, Bracket, Tuple}
-use Rattle.py_nesting.specs.Walk.{Demand, Nothing, Whole, Inside, Assigned, InsideAssigned, comes}
+use Rattle.py_nesting.specs.Walk.{Demand, Nothing, Whole, Inside, Assigned, comes}
 use Rattle.py_demands.specs.Roles.{Change, Below, Apart, Loose, Turned, Role, Lost, Head, Through, changed, all_changed, at_token, asked_by, roles, asked_before}
 use Rattle.py_demands.specs.Least.{Ask, NoNode, AtLeast, WithinAtLeast, OpenAtLeast, ask_changed, ask_all_changed, ask_by, ask_head, before_action, is_below, asks_no_more, ask_no_more}
 use Rattle.py_demands.specs.AtMost.{AtMost, AreAtMost}

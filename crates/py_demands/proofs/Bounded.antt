@@ -1,17 +1,14 @@
 -- What symbols derive asks no less of the parts before them than the symbols do.
-use Rattle.std.proofs.Common.{◌≡◌, ℕ, zero, suc, max, ◌≤◌, Bool, true, false, not, ◌&&◌, List, [], ◌∷◌, ◌++◌, map, length, Option, Some, None, refl, sym, ap, ◌∙◌, subst, arith}
+use Rattle.std.proofs.Common.{◌≡◌, ℕ, zero, suc, max, ◌≤◌, Bool, true, false, not, List, [], ◌∷◌, ◌++◌, map, length, Option, Some, None, refl, sym, ap, ◌∙◌, subst, arith}
 use Rattle.grammars.specs.Grammar.{Tok, Non, Do, Row, IsRow}
 use Rattle.grammars.specs.Derivation.{Derives}
 use Rattle.grammars.proofs.Bools.{and_left, and_right, not_false}
 use Rattle.py_tokens.specs.Token.{Place}
 use Rattle.py_syntax.specs.Token.{Token, At}
-use Rattle.py_syntax.specs.Tree.{Body}
 use Rattle.py_syntax.specs.Build.{PToken, Parts, Action, act}
-use Rattle.py_syntax.specs.Kinds.{kind_of}
 use Rattle.py_syntax.specs.Table.{Symbol, Nonterminal, table}
-use Rattle.py_syntax.specs.Laws.{finished}
 use Rattle.py_nesting.specs.Depths.{here}
-use Rattle.py_nesting.specs.Outlines.{Outline, Event, built}
+use Rattle.py_nesting.specs.Outlines.{Event, built}
 use Rattle.py_nesting.specs.TreeOutlines.{leaf}
 use Rattle.py_nesting.specs.Shapes.{entry_of, Entry, entries_of, outlines_of}
 use Rattle.py_nesting.specs.Effects.{effect, effect_of, after_all}
@@ -30,8 +27,8 @@ use Rattle.py_fronts.proofs.FrontsReached.{built_more}
 use Rattle.py_fronts.proofs.DepthsGo.{walk_both}
 use Rattle.py_demands.specs.Roles.{asked_before}
 use Rattle.py_demands.specs.Asks.{of_outlines, entry_depth, tokens_depth, place_of, avoids}
-use Rattle.py_demands.specs.Least.{Ask, ask_least, low, before_action, before, least, may_ask, may_ask_first, are_askable}
-use Rattle.py_demands.specs.AtMost.{AtMost, AreAtMost}
+use Rattle.py_demands.specs.Least.{Ask, ask_least, low, before, least, may_ask_first, are_askable}
+use Rattle.py_demands.specs.AtMost.{AreAtMost}
 use Rattle.py_demands.specs.Bound.{standing}
 use Rattle.py_demands.proofs.EffectsTied.{tied}
 use Rattle.py_demands.proofs.AsksKept.{action_kept, no_more_all, some_is}
@@ -152,7 +149,7 @@ by_row x r symbols v w ts ds i b =
         let joined : least (r.symbols ++ symbols) (Some qs) ≡ Some (l.asks ++ cs) = least_joined r.symbols symbols (Some qs) ∙ ap (least r.symbols) o ∙ least_frame r.symbols (q ∷ []) l.asks cs l.least_is in
         let askable : are_askable (r.symbols ++ symbols) (Some qs) ≡ true = askable_joined r.symbols symbols q cs (Some qs) o l.askable k in
         subst (λ (x : List Ask). AreAtMost x b.demands) (some_is (map (ask_least q) (low x) ++ cs) bs f)
-            (no_more_all (map (ask_least q) (low x)) l.asks cs b.demands l.no_more_is (b.no_less qs (l.asks ++ cs) h askable joined))
+        (no_more_all (map (ask_least q) (low x)) l.asks cs b.demands l.no_more_is (b.no_less qs (l.asks ++ cs) h askable joined))
 
 pub bounded : (n : ℕ) (symbols : List Symbol) (v w : Parts) (ts : List Token) (events : List Event) (ds : List Demand) → Fit symbols (entries_of v) → built events ≡ Some (outlines_of v) → Begin v
     → Derives table n symbols v ts w → length ds ≡ length (entries_of w) → Bounds symbols v w ts ds
@@ -168,8 +165,8 @@ bounded zero (s ∷ symbols) v w ts events ds f b g d m = absurd d
 bounded (suc n) [] v w ts events ds f b g d m = absurd d
 bounded (suc n) (Tok k ∷ symbols) v w ts events ds f b g (t, rest, e, kind, d) m =
     subst (λ (l : List Token). Bounds (Tok k ∷ symbols) v w l ds) (sym e)
-        (by_token t k symbols v w rest ds
-            (bounded n symbols (PToken t ∷ v) w rest events ds (f (entry_of (PToken t)) (subst (λ (m : ℕ). fits (token_kind m) (entry_of (PToken t)) ≡ true) kind (token_fits_so t))) b (tt, g) d m))
+    (by_token t k symbols v w rest ds
+    (bounded n symbols (PToken t ∷ v) w rest events ds (f (entry_of (PToken t)) (subst (λ (m : ℕ). fits (token_kind m) (entry_of (PToken t)) ≡ true) kind (token_fits_so t))) b (tt, g) d m))
 bounded (suc n) (Non x ∷ symbols) v w ts events ds f b g (r, i, a, d) m =
     by_row x r symbols v w ts ds i (bounded n (r.symbols ++ symbols) v w ts events ds (row_fits x r v symbols i a f.0 f.1) b g d m)
 bounded (suc n) (Do a ∷ symbols) v w ts events ds f b g d m =

@@ -1,5 +1,5 @@
 -- Symbols can be closed by tokens at one place, and then ask just what the rows that close them ask.
-use Rattle.std.proofs.Common.{◌≡◌, ℕ, zero, suc, max, ◌+◌, ◌<◌, ◌≤◌, Bool, true, false, not, ◌&&◌, ◌==◌, List, [], ◌∷◌, ◌++◌, map, length, Option, Some, None, ◌⊎◌, inl, inr, refl, sym, ap, ◌∙◌, subst, append_assoc, arith, eqb-true, ltb-true, lt-ltb}
+use Rattle.std.proofs.Common.{◌≡◌, ℕ, zero, suc, ◌+◌, ◌<◌, ◌≤◌, Bool, true, false, not, List, [], ◌∷◌, ◌++◌, length, Option, Some, None, refl, sym, ap, ◌∙◌, subst, arith, eqb-true, ltb-true, lt-ltb}
 use Rattle.grammars.specs.Grammar.{Tok, Non, Do}
 use Rattle.grammars.specs.Derivation.{Yields}
 use Rattle.grammars.specs.Sets.{are_below, have_specimens}
@@ -23,9 +23,9 @@ use Rattle.py_fronts.proofs.TableFits.{row_fits}
 use Rattle.py_fronts.proofs.DerivedFit.{token_fits_so}
 use Rattle.py_fronts.proofs.FrontsReached.{built_more}
 use Rattle.py_fronts.proofs.PartsBegin.{parts_begin}
-use Rattle.py_demands.specs.Roles.{asked_by, roles, asked_before}
-use Rattle.py_demands.specs.Asks.{place_of, avoids}
-use Rattle.py_demands.specs.Closing.{closing, asks_exactly, exactly_by, exactly_before, exactly}
+use Rattle.py_demands.specs.Roles.{asked_before}
+use Rattle.py_demands.specs.Asks.{avoids}
+use Rattle.py_demands.specs.Closing.{closing, exactly_by, exactly_before, exactly}
 use Rattle.py_demands.specs.Bound.{standing}
 use Rattle.py_demands.proofs.EffectsTied.{tied}
 use Rattle.py_demands.proofs.AsksKept.{some_is}
@@ -75,7 +75,7 @@ token_leads p k symbols v w kind l more events f b g =
         let same : these ≡ us = some_is these us e in
         let s = r (d ∷ these) m o in
         subst (λ (x : List Demand). (length x ≡ length (entries_of v)) × ((at : Place → Bool) → Same at p w ds v x)) same
-            ((let n = s.0 in omega arith), λ at. ((let n = (s.1 at).0 in omega arith), λ h. (let n = (s.1 at).1 h in let none = token_avoided at d (At p (kind_at k)) h in omega arith)))
+        ((let n = s.0 in omega arith), λ at. ((let n = (s.1 at).0 in omega arith), λ h. (let n = (s.1 at).1 h in let none = token_avoided at d (At p (kind_at k)) h in omega arith)))
 
 action_leads : (p : Place) (a : Action) (symbols : List Symbol) (v w : Parts) → Leads p symbols (act a v) w → Leads p (Do a ∷ symbols) v w
 action_leads p a symbols v w l more events f b g =
@@ -93,11 +93,13 @@ action_leads p a symbols v w l more events f b g =
         let is : us ≡ asked_before a these = exact_is a these us e in
         let s = r these m o in
         let t = tied a (entries_of v) (effect f.0 f.1) f.2 these in
-        subst (λ (x : List Demand). (length x ≡ length (entries_of v)) × ((at : Place → Bool) → Same at p w ds v x)) (sym is)
-            (t.2 (s.0 ∙ ap length same), λ at. (
-                (let n = (s.1 at).0 in let o = stands_before at a v f.0 f.1 events these f.2 b put same in omega arith),
-                λ h. (let n = (s.1 at).1 h in let o = stands_behind at a v f.0 f.1 events these g f.2 b put same in omega arith),
-                ))
+        subst (λ (x : List Demand). (length x ≡ length (entries_of v)) × ((at : Place → Bool) → Same at p w ds v x)) (sym is) (
+          t.2 (s.0 ∙ ap length same),
+          λ at. (
+            (let n = (s.1 at).0 in let o = stands_before at a v f.0 f.1 events these f.2 b put same in omega arith),
+            λ h. (let n = (s.1 at).1 h in let o = stands_behind at a v f.0 f.1 events these g f.2 b put same in omega arith),
+          ),
+        )
 
 rows_lead : (p : Place) (x : Nonterminal) (symbols : List Symbol) (v u w : Parts) → Leads p (closing x) v u → Leads p symbols u w → Leads p (Non x ∷ symbols) v w
 rows_lead p x symbols v u w l k more events f b g =

@@ -1,10 +1,10 @@
 -- No row asks less than its nonterminal is said to, however much is asked of what it gives and whatever lies below.
-use Rattle.std.proofs.Common.{◌≡◌, ℕ, zero, suc, Bool, true, false, not, ◌&&◌, ◌||◌, List, [], ◌∷◌, ◌++◌, map, Option, Some, None, ◌⊎◌, inl, inr, refl, sym, ap, ◌∙◌, subst, append_assoc}
+use Rattle.std.proofs.Common.{◌≡◌, zero, suc, Bool, true, not, ◌&&◌, ◌||◌, List, [], ◌∷◌, ◌++◌, map, Option, Some, None, ◌⊎◌, inl, inr, refl, sym, ap, ◌∙◌, subst, append_assoc}
 use Rattle.grammars.specs.Grammar.{Tok, Non, Do, Row, IsRow}
 use Rattle.grammars.proofs.Bools.{and_left, and_right, both, implied}
 use Rattle.py_syntax.specs.Build.{Parts, Action, Drop}
 use Rattle.py_syntax.specs.Table.{Symbol, Nonterminal, rows}
-use Rattle.py_nesting.specs.Outlines.{Label, Plain, Bracket, Tuple}
+use Rattle.py_nesting.specs.Outlines.{Plain, Bracket, Tuple}
 use Rattle.py_nesting.specs.Walk.{Demand}
 use Rattle.py_fronts.specs.Kinds.{gives}
 use Rattle.py_demands.specs.Roles.{Change, Below, Apart, Loose, Turned, Role, Lost, Head, Through, asked_by, roles, asked_before}
@@ -137,7 +137,7 @@ all_no_more_more [] (r ∷ rs) h = absurd (cc)
 all_no_more_more (q ∷ qs) [] h = absurd (cc)
 all_no_more_more (q ∷ qs) (r ∷ rs) h =
     both (asks_no_more (more q) (more r)) (ask_no_more (map more qs) (map more rs)) (no_more_more q r (and_left (asks_no_more q r) (ask_no_more qs rs) h))
-        (all_no_more_more qs rs (and_right (asks_no_more q r) (ask_no_more qs rs) h))
+    (all_no_more_more qs rs (and_right (asks_no_more q r) (ask_no_more qs rs) h))
 
 -- what a row's test tells
 pub record IsLow (x : Nonterminal) (q : Ask) (symbols : List Symbol) : Type 0 where
@@ -176,7 +176,7 @@ low_row x (OpenAtLeast zero) r i m =
 low_row x (OpenAtLeast (suc n)) r i m = one_higher x (OpenAtLeast n) r.symbols (low_row x (OpenAtLeast n) r i m)
 low_row x (WithinAtLeast zero) r i m =
     rows_low x (WithinAtLeast 0) r (rows x)
-        (implied (gives_items x) _ (and_right (not (gives_expression (gives x)) || rows_are_low x (OpenAtLeast 0) (rows x)) _ (and_right (rows_are_low x NoNode (rows x) && rows_are_low x (AtLeast 0) (rows x)) _ (all_low x))) m) i
+    (implied (gives_items x) _ (and_right (not (gives_expression (gives x)) || rows_are_low x (OpenAtLeast 0) (rows x)) _ (and_right (rows_are_low x NoNode (rows x) && rows_are_low x (AtLeast 0) (rows x)) _ (all_low x))) m) i
 low_row x (WithinAtLeast (suc n)) r i m = one_higher x (WithinAtLeast n) r.symbols (low_row x (WithinAtLeast n) r i m)
 
 -- what lies below is left alone
@@ -227,5 +227,5 @@ askable_joined (Do a ∷ these) symbols q cs o e h k = askable_joined these symb
 askable_joined (Non x ∷ these) symbols q cs o e h k =
     let may : may_ask_first x (least these (Some (q ∷ []))) ≡ true = and_left _ _ h in
     both (may_ask_first x (least (these ++ symbols) o)) (are_askable (these ++ symbols) o)
-        (first_frame x (least these (Some (q ∷ []))) (least (these ++ symbols) o) cs may (λ rs f. least_joined these symbols o ∙ ap (least these) e ∙ least_frame these (q ∷ []) rs cs f))
-        (askable_joined these symbols q cs o e (and_right (may_ask_first x (least these (Some (q ∷ [])))) _ h) k)
+    (first_frame x (least these (Some (q ∷ []))) (least (these ++ symbols) o) cs may (λ rs f. least_joined these symbols o ∙ ap (least these) e ∙ least_frame these (q ∷ []) rs cs f))
+    (askable_joined these symbols q cs o e (and_right (may_ask_first x (least these (Some (q ∷ [])))) _ h) k)

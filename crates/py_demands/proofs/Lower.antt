@@ -1,5 +1,5 @@
 -- The nodes of the parts behind a front stand no less deep in a module that begins with it.
-use Rattle.std.proofs.Common.{◌≡◌, ℕ, zero, suc, max, ◌≤◌, Bool, true, List, [], ◌∷◌, Some, refl, arith}
+use Rattle.std.proofs.Common.{◌≡◌, ℕ, zero, suc, Bool, [], ◌∷◌, refl, arith}
 use Rattle.py_tokens.specs.Token.{Place}
 use Rattle.py_syntax.specs.Tree.{Body}
 use Rattle.py_syntax.specs.Laws.{finished}

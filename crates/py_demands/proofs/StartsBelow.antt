@@ -1,5 +1,5 @@
 -- Where a statement begins that is made of an expression or of targets, a deeper node of theirs stands.
-use Rattle.std.proofs.Common.{◌≡◌, ℕ, zero, suc, max, ◌≤◌, Bool, true, false, List, [], ◌∷◌, Option, Some, None, refl, ap, arith}
+use Rattle.std.proofs.Common.{◌≡◌, ℕ, zero, suc, max, ◌≤◌, Bool, true, false, List, [], ◌∷◌, Some, None, refl, arith}
 use Rattle.py_tokens.specs.Token.{Place}
 use Rattle.py_syntax.specs.Build.{start_of, PToken, PExpr, PTargets, Parts, Action, MakeExprStmt, MakeAssign, MakeAugmented}
 use Rattle.py_nesting.specs.Depths.{here}

@@ -1,18 +1,17 @@
 -- A front of the tokens is closed to a module in which nodes stand as deep as the closing symbols ask.
-use Rattle.std.proofs.Common.{◌≡◌, ℕ, max, ◌≤◌, Bool, true, false, List, [], ◌∷◌, ◌++◌, length, Some, refl, sym, subst, append-nil, arith}
+use Rattle.std.proofs.Common.{◌≡◌, ◌≤◌, Bool, false, List, [], ◌∷◌, length, refl, sym, subst, append-nil, arith}
 use Rattle.py_tokens.specs.Token.{Place}
-use Rattle.py_syntax.specs.Token.{Token}
 use Rattle.py_syntax.specs.Tree.{Body}
 use Rattle.py_syntax.specs.Build.{Parts}
 use Rattle.py_syntax.specs.Laws.{finished}
 use Rattle.py_syntax.specs.Table.{Symbol}
 use Rattle.py_nesting.specs.Depths.{body_depth}
 use Rattle.py_nesting.specs.Shapes.{entries_of}
-use Rattle.py_nesting.specs.Walk.{Demand, Whole}
+use Rattle.py_nesting.specs.Walk.{Whole}
 use Rattle.py_fronts.specs.Fit.{Fit}
 use Rattle.py_fronts.proofs.FrontsReached.{completion_law}
 use Rattle.py_demands.specs.Bound.{standing, ClosingLaw}
-use Rattle.py_demands.proofs.Closed.{Closed, Same, closed}
+use Rattle.py_demands.proofs.Closed.{Same, closed}
 use Rattle.py_demands.proofs.Lower.{whole_stands}
 
 pub closing_law : ClosingLaw

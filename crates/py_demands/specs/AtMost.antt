@@ -1,7 +1,7 @@
 -- What is asked of a part is no less than some ask.
 use Rattle.std.specs.Prelude.{◌≤◌, List, [], ◌∷◌}
-use Rattle.py_nesting.specs.Walk.{Demand, Nothing, Whole, Inside, Assigned, InsideAssigned}
-use Rattle.py_demands.specs.Least.{Ask, NoNode, AtLeast, WithinAtLeast, OpenAtLeast}
+use Rattle.py_nesting.specs.Walk.{Demand, Nothing, Whole, Inside, Assigned}
+use Rattle.py_demands.specs.Least.{Ask, AtLeast, WithinAtLeast, OpenAtLeast}
 
 -- where nothing is asked no node comes, and so none that has less above it
 abbrev pub AtMost : Ask → Demand → Type 0

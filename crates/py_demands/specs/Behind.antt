@@ -1,7 +1,6 @@
 -- Where the run stands behind a front, with what is asked there.
-use Rattle.std.specs.Prelude.{◌≡◌, true, List, [], ◌∷◌, ◌++◌, Some}
+use Rattle.std.specs.Prelude.{◌≡◌, true, List, [], ◌∷◌, Some}
 use Rattle.grammars.specs.Sets.{have_specimens}
-use Rattle.py_tokens.specs.Token.{Place}
 use Rattle.py_syntax.specs.Token.{Token}
 use Rattle.py_syntax.specs.Build.{Parts}
 use Rattle.py_syntax.specs.Table.{Symbol, table, sets}

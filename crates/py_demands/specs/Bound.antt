@@ -8,8 +8,7 @@ use Rattle.py_syntax.specs.Build.{Parts}
 use Rattle.py_syntax.specs.Grammar.{IsModule}
 use Rattle.py_syntax.specs.Table.{Symbol, table, sets}
 use Rattle.py_nesting.specs.Depths.{body_depth}
-use Rattle.py_nesting.specs.Outlines.{Outline}
-use Rattle.py_nesting.specs.Shapes.{Entry, entries_of, outlines_of}
+use Rattle.py_nesting.specs.Shapes.{entries_of, outlines_of}
 use Rattle.py_nesting.specs.Walk.{Demand, Whole, depth_of}
 use Rattle.py_fronts.specs.AtFront.{AtFront}
 use Rattle.py_demands.specs.Asks.{of_outlines, tokens_depth, avoids}

@@ -133,7 +133,6 @@ roles BeginFrom = Lost ∷ Lost ∷ Head Plain [] ∷ []
 roles AddImported = Lost ∷ Kept ∷ []
 roles AddImportedAs = Lost ∷ Lost ∷ Lost ∷ Kept ∷ []
 
-
 -- what is asked of the parts before an action
 abbrev pub asked_before : Action → List Demand → List Demand
 asked_before Drop ds = Nothing ∷ ds

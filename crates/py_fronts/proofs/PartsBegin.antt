@@ -1,9 +1,9 @@
 -- Each action leaves parts that begin with a node.
-use Rattle.std.proofs.Common.{◌≡◌, ℕ, max, ◌≤◌, Bool, true, List, [], ◌∷◌, ◌++◌, Option, Some, None, refl, arith}
+use Rattle.std.proofs.Common.{◌≡◌, ◌≤◌, Bool, List, [], ◌∷◌, ◌++◌, Option, Some, None, refl, arith}
 use Rattle.py_tokens.specs.Token.{Place}
-use Rattle.py_syntax.specs.Token.{TName, TNumber, TText, Token, At}
+use Rattle.py_syntax.specs.Token.{TName, TNumber, TText, At}
 use Rattle.py_syntax.specs.Tree.{BareClass, BinaryOperator, ComparisonOperator, EAnd, ECall, ECompare, EDict, EListComprehension, EName, EOr, ESlice, ESubscript, ETuple, Expr, Exprs, LoopName, LoopNames, SClass, SDef, SGlobal, STry, Target, Targets, UnaryOperator, more_exprs, no_expr, no_exprs}
-use Rattle.py_syntax.specs.Build.{PToken, PExpr, PSign, PLoop, PLoopTarget, PTargets, PClass, PStmt, PBody, Parts, Action, act, with_expr, start_of, target_of, targets_of, targets_found, more_targets_found, target_found, Drop, MakeLeaf, MakeTrue, MakeFalse, MakeNone, MakeEmptyTuple, MakeParenthesis, MakeTuple, AddItem, MakeEmptyList, MakeListOfOne, MakeList, BeginComprehension, BeginLoop, AddCondition, AddLoop, MakeEmptyDict, BeginDict, AddPair, MakeSetOfOne, MakeSet, MakeAttribute, BeginCall, AddArgument, AddKeyword, MakeSubscript, MakeSliceFrom, MakeSlice, AddUpper, MakeUnary, MakeBinary, MakeSign, MakeLongSign, MakeCompare, AddLink, MakeNot, MakeAnd, AddAnd, MakeOr, AddOr, MakeConditional, MakeLoopName, MakeLoopNames, AddLoopName, MakeLoopParenthesis, BeginBody, AddStmt, MakeExprStmt, MakeTargets, AddTargets, MakeAssign, MakeAugmented, MakePass, MakeBreak, MakeContinue, MakeReturn, MakeReturnValue, MakeRaise, MakeYield, BeginGlobal, AddGlobal, MakeAssert, MakeAssertMessage, MakeDelete, MakeIf, MakeElif, MakeElse, MakeWhile, MakeFor, BeginTry, CatchAll, Catch, CatchAs, MakeClassName, MakeClassWithin, BeginDef, AddParameter, AddDefault, EndDef, BeginClass, AddBase, EndClass, BeginImport, BeginFrom, AddImported, AddImportedAs, add_and, add_argument, add_base, add_condition, add_default, add_global, add_imported, add_imported_as, add_item, add_keyword, add_link, add_loop, add_loop_name, add_or, add_pair, add_parameter, add_stmt, add_targets, add_upper, begin_body, begin_call, begin_class, begin_comprehension, begin_def, begin_dict, begin_from, begin_global, begin_import, begin_loop, begin_try, catch, catch_all, catch_as, drop, end_class, end_def, make_and, make_assert, make_assert_message, make_assign, make_attribute, make_augmented, make_binary, make_break, make_class_name, make_class_within, make_compare, make_conditional, make_continue, make_delete, make_elif, make_else, make_empty_dict, make_empty_list, make_empty_tuple, make_expr_stmt, make_false, make_for, make_if, make_leaf, make_list, make_list_of_one, make_long_sign, make_loop_name, make_loop_names, make_loop_parenthesis, make_none, make_not, make_or, make_parenthesis, make_pass, make_raise, make_return, make_return_value, make_set, make_set_of_one, make_sign, make_slice, make_slice_from, make_subscript, make_targets, make_true, make_tuple, make_unary, make_while, make_yield}
+use Rattle.py_syntax.specs.Build.{PToken, PExpr, PSign, PLoop, PLoopTarget, PTargets, PClass, PStmt, PBody, Parts, Action, act, with_expr, target_of, targets_of, targets_found, more_targets_found, target_found, Drop, MakeLeaf, MakeTrue, MakeFalse, MakeNone, MakeEmptyTuple, MakeParenthesis, MakeTuple, AddItem, MakeEmptyList, MakeListOfOne, MakeList, BeginComprehension, BeginLoop, AddCondition, AddLoop, MakeEmptyDict, BeginDict, AddPair, MakeSetOfOne, MakeSet, MakeAttribute, BeginCall, AddArgument, AddKeyword, MakeSubscript, MakeSliceFrom, MakeSlice, AddUpper, MakeUnary, MakeBinary, MakeSign, MakeLongSign, MakeCompare, AddLink, MakeNot, MakeAnd, AddAnd, MakeOr, AddOr, MakeConditional, MakeLoopName, MakeLoopNames, AddLoopName, MakeLoopParenthesis, BeginBody, AddStmt, MakeExprStmt, MakeTargets, AddTargets, MakeAssign, MakeAugmented, MakePass, MakeBreak, MakeContinue, MakeReturn, MakeReturnValue, MakeRaise, MakeYield, BeginGlobal, AddGlobal, MakeAssert, MakeAssertMessage, MakeDelete, MakeIf, MakeElif, MakeElse, MakeWhile, MakeFor, BeginTry, CatchAll, Catch, CatchAs, MakeClassName, MakeClassWithin, BeginDef, AddParameter, AddDefault, EndDef, BeginClass, AddBase, EndClass, BeginImport, BeginFrom, AddImported, AddImportedAs, add_and, add_argument, add_base, add_condition, add_default, add_global, add_imported, add_imported_as, add_item, add_keyword, add_link, add_loop, add_loop_name, add_or, add_pair, add_parameter, add_stmt, add_targets, add_upper, begin_body, begin_call, begin_class, begin_comprehension, begin_def, begin_dict, begin_from, begin_global, begin_import, begin_loop, begin_try, catch, catch_all, catch_as, drop, end_class, end_def, make_and, make_assert, make_assert_message, make_assign, make_attribute, make_augmented, make_binary, make_break, make_class_name, make_class_within, make_compare, make_conditional, make_continue, make_delete, make_elif, make_else, make_empty_dict, make_empty_list, make_empty_tuple, make_expr_stmt, make_false, make_for, make_if, make_leaf, make_list, make_list_of_one, make_long_sign, make_loop_name, make_loop_names, make_loop_parenthesis, make_none, make_not, make_or, make_parenthesis, make_pass, make_raise, make_return, make_return_value, make_set, make_set_of_one, make_sign, make_slice, make_slice_from, make_subscript, make_targets, make_true, make_tuple, make_unary, make_while, make_yield}
 use Rattle.py_nesting.specs.Outlines.{outline_depth, outlines_depth}
 use Rattle.py_nesting.specs.TreeOutlines.{targets_outline, assigned_outlines}
 use Rattle.py_fronts.specs.Begins.{TargetsBegin, PartBegins, Begin}

@@ -1,12 +1,12 @@
 -- Where an expression begins, a node of it stands, whether it turns out to be targets or not.
-use Rattle.std.proofs.Common.{◌≡◌, ℕ, zero, suc, max, ◌≤◌, Bool, true, List, [], ◌∷◌, ◌++◌, Option, Some, None, refl, sym, ap, ◌∙◌, subst, arith}
+use Rattle.std.proofs.Common.{◌≡◌, ℕ, zero, suc, max, ◌≤◌, Bool, true, List, ◌∷◌, Option, Some, None, refl, ap, subst, arith}
 use Rattle.py_tokens.specs.Token.{Place}
-use Rattle.py_syntax.specs.Tree.{Expr, EName, ENumber, EText, ETrue, EFalse, ENone, EParenthesis, EEmptyTuple, ETuple, EList, EListComprehension, EDict, ESet, EAttribute, ECall, ESubscript, ESlice, EUnary, EBinary, ECompare, ENot, EAnd, EOr, EConditional, Exprs, no_exprs, more_exprs, Target, TargetName, TargetAttribute, TargetSubscript, Targets, OneTarget, SomeTargets, ParenthesisTargets, BracketTargets}
-use Rattle.py_syntax.specs.Build.{PExpr, start_of, target_of, one_more, target_list_of, in_brackets, one_target, some_targets, targets_of}
+use Rattle.py_syntax.specs.Tree.{Expr, EName, ENumber, EText, ETrue, EFalse, ENone, EParenthesis, EEmptyTuple, ETuple, EList, EListComprehension, EDict, ESet, EAttribute, ECall, ESubscript, ESlice, EUnary, EBinary, ECompare, ENot, EAnd, EOr, EConditional, no_exprs, more_exprs, Target, Targets, SomeTargets, ParenthesisTargets, BracketTargets}
+use Rattle.py_syntax.specs.Build.{PExpr, start_of, target_of, one_more, target_list_of, in_brackets, some_targets, targets_of}
 use Rattle.py_nesting.specs.Depths.{here, up, under}
-use Rattle.py_nesting.specs.Outlines.{Outlines, outline_depth, outlines_depth}
+use Rattle.py_nesting.specs.Outlines.{outline_depth, outlines_depth}
 use Rattle.py_fronts.specs.Begins.{PartBegins}
-use Rattle.py_nesting.specs.TreeOutlines.{expr_outline, target_outline, target_list_outlines, targets_outline, assigned_outlines}
+use Rattle.py_nesting.specs.TreeOutlines.{expr_outline, target_outline, target_list_outlines, targets_outline}
 
 up_grows : (n : ℕ) → n ≤ up n
 up_grows zero = omega arith

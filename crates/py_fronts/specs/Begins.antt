@@ -1,5 +1,5 @@
 -- Where what is assigned to begins, a node of it stands.
-use Rattle.std.specs.Prelude.{◌≡◌, ℕ, ◌≤◌, Bool, true, List, [], ◌∷◌}
+use Rattle.std.specs.Prelude.{◌≡◌, ◌≤◌, Bool, true, List, [], ◌∷◌}
 use Rattle.py_tokens.specs.Token.{Place}
 use Rattle.py_syntax.specs.Tree.{ETuple, no_exprs, Targets}
 use Rattle.py_syntax.specs.Build.{Part, PExpr, PTargets, Parts}

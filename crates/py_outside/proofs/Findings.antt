@@ -2,7 +2,7 @@
 use Rattle.std.proofs.Common.{◌≡◌, ℕ, Bool, true, false, List, [], ◌∷◌, ◌++◌, length, Option, Some, None, refl, sym, ap, ◌∙◌, subst}
 use Rattle.std.proofs.lemmas.List.{map-append}
 use Rattle.py_tokens.specs.Token.{Place}
-use Rattle.py_syntax.specs.Token.{Kind, TNumber, TText, TFormatted, Token, At}
+use Rattle.py_syntax.specs.Token.{TNumber, TText, TFormatted, Token, At}
 use Rattle.py_syntax.specs.Laws.{IsFrontOfModule, IsLongestFront}
 use Rattle.py_constructs.specs.Construct.{FormattedText}
 use Rattle.py_constructs.specs.Outside.{Told, told, IsTold}
@@ -11,7 +11,6 @@ use Rattle.py_constructs.specs.StandIns.{place_of}
 use Rattle.py_constructs.proofs.Told.{here_law, joined_law, next_law, none_law}
 use Rattle.py_lexer.specs.PlainTokens.{plain_place}
 use Rattle.py_lexer.specs.declared.token.Token.{Token as TokenRead}
-use Rattle.py_lexer.specs.declared.token.TokenKind.{TokenKind}
 use Rattle.py_lexer.specs.declared.token.TokenKind.TheVariants as kind
 use Rattle.py_table.specs.PlainTokens.{plain_token, plain_tokens}
 use Rattle.py_outside.specs.PlainConstructs.{plain_construct, IsHere, IsNextTold, Tells}
@@ -37,8 +36,8 @@ joined_tells : (before earlier : List Token) (q p : Place) (s : List ℕ) (b : B
 joined_tells before earlier q p s true e f = (q, s, p, earlier, e, refl, f)
 joined_tells before earlier q p s false e none =
     λ (r, u, o, others, i, z, f).
-        let same : earlier ≡ others = last_of earlier others _ _ (sym e ∙ i) in
-        none (subst (λ (l : List Token). with_number l p) (sym same) (subst (λ (x : Token). with_number others (place_of x)) (sym z) f))
+    let same : earlier ≡ others = last_of earlier others _ _ (sym e ∙ i) in
+    none (subst (λ (l : List Token). with_number l p) (sym same) (subst (λ (x : Token). with_number others (place_of x)) (sym z) f))
 
 pub joined_found : (texts : List (List ℕ)) (before earlier : List TokenRead) (last token : TokenRead) (s : List ℕ) (b : Bool) → before ≡ earlier ++ last ∷ [] → last.kind ≡ kind.Text s → token.kind ≡ kind.Formatted
     → Tells b (with_number (plain_tokens texts earlier) (plain_place token.place)) → Tells b (IsJoined (plain_tokens texts before) (plain_token texts token))
@@ -60,34 +59,34 @@ pub here_told : (texts : List (List ℕ)) (before rest later : List TokenRead) (
     → IsHere (plain_tokens texts before) (plain_token texts token) found → Tellable (plain_tokens texts before) (plain_tokens texts rest) (Some (told (plain_construct c) (plain_place token.place)))
 here_told texts before rest later token found c e z h =
     subst (λ (ts : List TokenRead). Tellable (plain_tokens texts before) (plain_tokens texts ts) (Some (told (plain_construct c) (plain_place token.place)))) (sym e)
-        (λ l. here_law (plain_construct c) (plain_tokens texts before) _ _ (plain_tokens texts later) l (rw z at h))
+    (λ l. here_law (plain_construct c) (plain_tokens texts before) _ _ (plain_tokens texts later) l (rw z at h))
 
 joined_so : (before rest : List Token) (t : Token) → IsJoined before t → Tellable before (t ∷ rest) (Some (told FormattedText (place_of t)))
 joined_so before rest t (q, s, p, earlier, b, e, f) =
     subst (λ (x : Token). Tellable before (x ∷ rest) (Some (told FormattedText (place_of x)))) (sym e)
-        (subst (λ (l : List Token). Tellable l (At p TFormatted ∷ rest) (Some (told FormattedText p))) (sym b) (λ l. joined_law q s p earlier rest l f))
+    (subst (λ (l : List Token). Tellable l (At p TFormatted ∷ rest) (Some (told FormattedText p))) (sym b) (λ l. joined_law q s p earlier rest l f))
 
 pub joined_told : (texts : List (List ℕ)) (before rest later : List TokenRead) (token : TokenRead) → rest ≡ token ∷ later → IsJoined (plain_tokens texts before) (plain_token texts token)
     → Tellable (plain_tokens texts before) (plain_tokens texts rest) (Some (told FormattedText (plain_place token.place)))
 joined_told texts before rest later token e j =
     subst (λ (ts : List TokenRead). Tellable (plain_tokens texts before) (plain_tokens texts ts) (Some (told FormattedText (plain_place token.place)))) (sym e)
-        (joined_so (plain_tokens texts before) (plain_tokens texts later) (plain_token texts token) j)
+    (joined_so (plain_tokens texts before) (plain_tokens texts later) (plain_token texts token) j)
 
 next_so : (before rest : List Token) (t : Token) (p : Place) → IsNext before t rest p → Tellable before (t ∷ rest) (Some (told FormattedText p))
 next_so before rest t p (q, s, later, e, z, f) =
     subst (λ (x : Token). Tellable before (x ∷ rest) (Some (told FormattedText p))) (sym e)
-        (subst (λ (l : List Token). Tellable before (At q (TText s) ∷ l) (Some (told FormattedText p))) (sym z) (λ l. next_law before q s p later l f))
+    (subst (λ (l : List Token). Tellable before (At q (TText s) ∷ l) (Some (told FormattedText p))) (sym z) (λ l. next_law before q s p later l f))
 
 pub next_told : (texts : List (List ℕ)) (before rest later : List TokenRead) (token : TokenRead) (found : Option PlaceKept) (p : PlaceKept) → rest ≡ token ∷ later → found ≡ Some p
     → IsNextTold (plain_tokens texts before) (plain_token texts token) (plain_tokens texts later) found
     → Tellable (plain_tokens texts before) (plain_tokens texts rest) (Some (told FormattedText (plain_place p)))
 next_told texts before rest later token found p e z h =
     subst (λ (ts : List TokenRead). Tellable (plain_tokens texts before) (plain_tokens texts ts) (Some (told FormattedText (plain_place p)))) (sym e)
-        (next_so (plain_tokens texts before) (plain_tokens texts later) (plain_token texts token) (plain_place p) (rw z at h))
+    (next_so (plain_tokens texts before) (plain_tokens texts later) (plain_token texts token) (plain_place p) (rw z at h))
 
 pub none_told : (texts : List (List ℕ)) (before rest later : List TokenRead) (token : TokenRead) → rest ≡ token ∷ later → BeginsNowhere (plain_tokens texts before) (plain_token texts token)
     → (IsJoined (plain_tokens texts before) (plain_token texts token) → ⊥) → IsNextTold (plain_tokens texts before) (plain_token texts token) (plain_tokens texts later) None
     → Tellable (plain_tokens texts before) (plain_tokens texts rest) None
 none_told texts before rest later token e here joined next =
     subst (λ (ts : List TokenRead). Tellable (plain_tokens texts before) (plain_tokens texts ts) None) (sym e)
-        (λ l. none_law (plain_tokens texts before) (plain_token texts token) (plain_tokens texts later) l here joined next)
+    (λ l. none_law (plain_tokens texts before) (plain_token texts token) (plain_tokens texts later) l here joined next)

@@ -1,5 +1,5 @@
 -- What a trial tells.
-use Rattle.std.proofs.Common.{◌≡◌, ℕ, Bool, true, false, ◌==◌, List, [], ◌∷◌, ◌++◌, length, refl, sym, ap, ◌∙◌, subst, append-nil, append_assoc, arith, eqb-true}
+use Rattle.std.proofs.Common.{◌≡◌, ℕ, Bool, true, false, ◌==◌, List, [], ◌∷◌, ◌++◌, length, sym, ap, ◌∙◌, subst, append-nil, append_assoc, arith, eqb-true}
 use Rattle.std.proofs.lemmas.List.{map-append}
 use Rattle.py_syntax.specs.Token.{Token}
 use Rattle.py_syntax.specs.Tree.{Body}

@@ -1,5 +1,5 @@
 -- The code's constructs as the plain ones that definitions speak of.
-use Rattle.std.specs.Prelude.{◌≡◌, ℕ, Bool, true, false, List, [], ◌∷◌, Option, Some, None}
+use Rattle.std.specs.Prelude.{ℕ, Bool, true, false, List, [], ◌∷◌, Option, Some, None}
 use Rattle.py_tokens.specs.Token.{Place}
 use Rattle.py_syntax.specs.Token.{Kind, Token, At}
 use Rattle.py_constructs.specs.Construct as meaning

@@ -69,11 +69,20 @@ fn operator_stand_in(operator: Operator) -> Option<(Construct, TokenKind)>
     match operator {
         Operator::Slash => Some((Construct::Division, TokenKind::Operator(Operator::Star))),
         Operator::SlashEqual => {
-            Some((Construct::Division, TokenKind::Operator(Operator::StarEqual)))
+            Some((
+                Construct::Division,
+                TokenKind::Operator(Operator::StarEqual),
+            ))
         }
-        Operator::At => Some((Construct::MatrixProduct, TokenKind::Operator(Operator::Star))),
+        Operator::At => Some((
+            Construct::MatrixProduct,
+            TokenKind::Operator(Operator::Star),
+        )),
         Operator::AtEqual => {
-            Some((Construct::MatrixProduct, TokenKind::Operator(Operator::StarEqual)))
+            Some((
+                Construct::MatrixProduct,
+                TokenKind::Operator(Operator::StarEqual),
+            ))
         }
         Operator::Ellipsis => Some((Construct::Ellipsis, TokenKind::Number(0))),
         _ => None,

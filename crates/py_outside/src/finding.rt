@@ -50,13 +50,7 @@ fn is_joined(
     let TokenKind::Text(_) = &last.kind else {
         return Ok(false);
     };
-    Ok(goes_on(
-        alloc,
-        earlier,
-        token.place,
-        TokenKind::Number(0),
-        names,
-    )?)
+    Ok(goes_on(alloc, earlier, token.place, TokenKind::Number(0), names)?)
 }
 
 /// The place of a formatted text that the text before it, this token, belongs to.

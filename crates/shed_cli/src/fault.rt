@@ -70,11 +70,7 @@ pub(crate) fn too_deep(alloc: Global, place: Place) -> Result<Fault, NoMemory>
 }
 
 /// A construct outside the profile, whose head has this place.
-pub(crate) fn outside(
-    alloc: Global,
-    place: Place,
-    construct: Construct,
-) -> Result<Fault, NoMemory>
+pub(crate) fn outside(alloc: Global, place: Place, construct: Construct) -> Result<Fault, NoMemory>
     ensures { IfOk result (λ f. (f.place ≡ place) × (string_bytes f.said ≡ codes "P2 Outside " ++ construct_text (plain_construct construct)) × (f.limit ≡ false)) }
 {
     let mut said = String::from_str(alloc, "P2 Outside ")?;

@@ -195,8 +195,8 @@ half =
         count = 2;
         longest = longest_front 400 2 half_text refl;
         told =
-          here_law Float (take 2 (grammar_tokens (tokens half_text))) (at 1 5) TFloat (drop 3 (grammar_tokens (tokens half_text))) (longest_front 400 2 half_text refl)
-              (TNumber 0, refl, (at 1 5, refl, refl, refl), (drop 3 (grammar_tokens (tokens whole_text)), tree 400 whole_text, spelt_text 400 whole_text refl));
+            here_law Float (take 2 (grammar_tokens (tokens half_text))) (at 1 5) TFloat (drop 3 (grammar_tokens (tokens half_text))) (longest_front 400 2 half_text refl)
+            (TNumber 0, refl, (at 1 5, refl, refl, refl), (drop 3 (grammar_tokens (tokens whole_text)), tree 400 whole_text, spelt_text 400 whole_text refl));
       },
     )
 

@@ -16,4 +16,4 @@ returns-in-Some-3 c =
 pub returns-in-None : goal.returns-in-None
 returns-in-None c =
     none_told c.args.names.now c.args.front.now c.args.rest.now c.in-Some.later.now c.in-Some.token.now c.in-Some.ensures.cases.0 (rw c.in_default-2.is at c.in_ok-construct.ensures)
-        (rw c.if-branch.false at c.in_ok-is_joined.ensures) (rw c.in-None.is at c.in_ok-place.ensures)
+    (rw c.if-branch.false at c.in_ok-is_joined.ensures) (rw c.in-None.is at c.in_ok-place.ensures)

@@ -6,10 +6,10 @@ pub returns-in-Some-2 : goal.returns-in-Some-2
 returns-in-Some-2 c =
     let many : length c.split_at.result.1.now ≡ length c.args.rest.now = omega (arith, c.split_at.ensures.back_len, c.in-Some.ensures.0, c.in-Some.ensures.1) in
     outside_at c.args.names.now c.args.tokens.now c.split_at.result.0.now c.split_at.result.1.now c.args.rest.now c.in-Some-2.place c.in-Some-2.construct c.split_at.ensures.by_index.0 many
-        (rw c.in-Some-2.is at c.in_ok-construct.ensures)
+    (rw c.in-Some-2.is at c.in_ok-construct.ensures)
 
 pub returns : goal.returns
 returns c =
     let many : length c.split_at.result.1.now ≡ length c.args.rest.now = omega (arith, c.split_at.ensures.back_len, c.in-Some.ensures.0, c.in-Some.ensures.1) in
     unexpected_at c.args.names.now c.args.tokens.now c.split_at.result.0.now c.split_at.result.1.now c.args.rest.now _ _ c.split_at.ensures.by_index.0 many
-        (rw c.in_default-2.is at c.in_ok-construct.ensures) (c.in_ok-place.ensures c.args.names.now)
+    (rw c.in_default-2.is at c.in_ok-construct.ensures) (c.in_ok-place.ensures c.args.names.now)
