@@ -8,3 +8,4 @@ mod Lower
 mod RowsClose
 mod Closed
 mod Ways
+mod Ordered

@@ -5,3 +5,4 @@ pub mod AtMost
 pub mod Bound
 pub mod Closing
 pub mod Behind
+pub mod Order
