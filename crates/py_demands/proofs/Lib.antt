@@ -9,3 +9,5 @@ mod RowsClose
 mod Closed
 mod Ways
 mod Ordered
+mod ExactRows
+pub mod Steps

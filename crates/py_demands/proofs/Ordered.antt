@@ -1,5 +1,5 @@
 -- Where one token of a front stands at a place at most, one part of the stack has nodes there at most.
-use Rattle.std.proofs.Common.{◌≡◌, ℕ, zero, suc, max, ◌≤◌, ◌<◌, Bool, true, false, List, [], ◌∷◌, ◌++◌, map, length, Option, Some, None, ◌⊎◌, inl, inr, refl, sym, ap, ◌∙◌, subst, arith}
+use Rattle.std.proofs.Common.{◌≡◌, ℕ, zero, suc, ◌≤◌, ◌<◌, Bool, false, List, [], ◌∷◌, ◌++◌, map, length, Some, refl, ap, ◌∙◌, arith}
 use Rattle.py_tokens.specs.Token.{Place}
 use Rattle.py_syntax.specs.Token.{Token, At}
 use Rattle.py_syntax.specs.Build.{PToken, Parts, Action, Drop, act}
@@ -11,7 +11,6 @@ use Rattle.py_nesting.specs.Walk.{Demand, Nothing, Whole, Inside, Assigned, Insi
 use Rattle.py_fronts.specs.Begins.{Begin}
 use Rattle.py_demands.specs.Roles.{Change, Below, Apart, Loose, Turned, Role, Lost, Head, Through, changed, all_changed, at_token, asked_by, roles, asked_before}
 use Rattle.py_demands.specs.Asks.{place_of, entry_depth}
-use Rattle.py_demands.specs.Bound.{standing}
 use Rattle.py_demands.specs.Order.{NoDeeper, AreNoDeeper, IsAway, IsLone}
 use Rattle.py_demands.proofs.EffectsTied.{tied}
 use Rattle.py_demands.proofs.Bounded.{stands_before, stands_behind, token_avoided}

@@ -6,3 +6,4 @@ pub mod Bound
 pub mod Closing
 pub mod Behind
 pub mod Order
+pub mod Steps

@@ -1,5 +1,5 @@
 -- Demands in order, and places at which one part of a stack has nodes at most.
-use Rattle.std.specs.Prelude.{◌≡◌, ℕ, ◌≤◌, ◌<◌, Bool, List, [], ◌∷◌, length}
+use Rattle.std.specs.Prelude.{◌≡◌, ◌≤◌, ◌<◌, Bool, List, [], ◌∷◌, length}
 use Rattle.py_tokens.specs.Token.{Place}
 use Rattle.py_syntax.specs.Build.{Parts}
 use Rattle.py_nesting.specs.Shapes.{entries_of}

@@ -5,6 +5,7 @@
 #![tactic(auto)]
 
 ghost use Rattle.py_demands.specs.Bound.{LowerLaw, ClosingLaw};
+ghost use Rattle.py_demands.specs.Steps.{StepsLaw};
 
 /// In each module that begins with a front, the nodes of the parts behind it, and those that come to stand at their tokens, have the
 /// depths that demands tell which are no less than what the symbols ask.
@@ -15,4 +16,10 @@ pub fn nodes_stand_as_deep_as_symbols_ask()
 /// A front is closed by tokens at any place to a module in which those nodes have just the depths that the closing symbols ask.
 pub fn closing_symbols_give_a_module()
     ensures law { ClosingLaw }
+{}
+
+/// From the beginning of a module, each step of the table's run over a front leads to a place where what the symbols ask, at least and
+/// where they are closed, is known, and where the parts have nodes at the tokens that were read alone.
+pub fn a_run_finds_what_is_asked()
+    ensures law { StepsLaw }
 {}
