@@ -11,3 +11,4 @@ mod Ways
 mod Ordered
 mod ExactRows
 pub mod Steps
+mod Agreed

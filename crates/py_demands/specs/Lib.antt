@@ -7,3 +7,4 @@ pub mod Closing
 pub mod Behind
 pub mod Order
 pub mod Steps
+pub mod Agreed

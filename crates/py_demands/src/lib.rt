@@ -4,6 +4,7 @@
 //! `specs/Least.antt` what each nonterminal asks at least. The functions below have no body: they carry laws.
 #![tactic(auto)]
 
+ghost use Rattle.py_demands.specs.Agreed.{LeastLaw};
 ghost use Rattle.py_demands.specs.Bound.{LowerLaw, ClosingLaw};
 ghost use Rattle.py_demands.specs.Steps.{StepsLaw};
 
@@ -22,4 +23,10 @@ pub fn closing_symbols_give_a_module()
 /// where they are closed, is known, and where the parts have nodes at the tokens that were read alone.
 pub fn a_run_finds_what_is_asked()
     ensures law { StepsLaw }
+{}
+
+/// Where what is asked at least is what is asked when the symbols are closed, no module that begins with the front and has a node at a
+/// place of the front has it less deep than the closing symbols ask.
+pub fn where_asks_agree_no_module_stands_less_deep()
+    ensures law { LeastLaw }
 {}
