@@ -80,6 +80,7 @@ print(f"1 MB of source ({len(whole)} bytes): {seconds(whole):.3f} s")
 refused = (
     ("minus signs", "x = " + "-" * 1_048_000 + "1\n"),
     ("open parentheses", "(" * 1_048_000 + "\n"),
+    ("assignments with a float behind them", module(60_000)[:1_048_000].rpartition("\n")[0] + "\nx = 1.5\n"),
     ("blocks in one another", "".join(" " * level + "if 1 < 2:\n" for level in range(1_400)) + " " * 1_400 + "x = 1\n"),
 )
 for name, text in refused:
