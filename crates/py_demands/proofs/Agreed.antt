@@ -1,41 +1,111 @@
 -- Where what is asked at least is what is asked when the symbols are closed, no module has a node less deep.
-use Rattle.std.proofs.Common.{◌≡◌, ◌<◌, List, [], ◌∷◌, sym, ap, ◌∙◌, append-nil, arith}
-use Rattle.py_nesting.specs.Walk.{Demand, Nothing, Whole, Inside, Assigned, InsideAssigned}
-use Rattle.py_demands.specs.Least.{Ask, NoNode, AtLeast, WithinAtLeast}
+use Rattle.std.proofs.Common.{◌≡◌, ℕ, suc, max, ◌<◌, Bool, List, [], ◌∷◌, length, Option, Some, None, refl, sym, ap, ◌∙◌, append-nil, arith}
+use Rattle.py_tokens.specs.Token.{Place}
+use Rattle.py_syntax.specs.Token.{At}
+use Rattle.py_syntax.specs.Build.{Part, PToken, PExpr, PSign, PLoop, PLoopTarget, PTargets, PClass, PStmt, PBody, Parts}
+use Rattle.py_nesting.specs.Outlines.{Outline, outline_depth}
+use Rattle.py_nesting.specs.Shapes.{part_outline, entry_of, entries_of, outlines_of}
+use Rattle.py_nesting.specs.Walk.{Demand, Nothing, Whole, Inside, Assigned, InsideAssigned, raise, demanded, depth_of}
+use Rattle.py_demands.specs.Asks.{of_outlines, entry_depth, tokens_depth}
+use Rattle.py_demands.specs.Least.{Ask, NoNode, AtLeast, WithinAtLeast, OpenAtLeast}
 use Rattle.py_demands.specs.AtMost.{AtMost, AreAtMost}
 use Rattle.py_demands.specs.Bound.{standing}
 use Rattle.py_demands.specs.Behind.{is_once}
 use Rattle.py_demands.specs.Order.{NoDeeper, AreNoDeeper}
-use Rattle.py_demands.specs.Agreed.{Agrees, Agree, LeastLaw}
+use Rattle.py_demands.specs.Agreed.{IsSteady, Agrees, Agree, LeastLaw}
 use Rattle.py_demands.proofs.Lower.{lower_law}
 
-no_deeper : (q : Ask) (u d : Demand) → Agrees q u → AtMost q d → NoDeeper u d
-no_deeper q u Nothing a h = tt
-no_deeper NoNode u (Whole n) a h = absurd h
-no_deeper (AtLeast k) (Whole m) (Whole n) a h = (omega arith)
-no_deeper (WithinAtLeast k) u (Whole n) a h = absurd h
-no_deeper NoNode u (Inside n) a h = absurd h
-no_deeper (AtLeast k) u (Inside n) a h = absurd h
-no_deeper (WithinAtLeast k) (Inside m) (Inside n) a h = (omega arith)
-no_deeper NoNode u d a h = absurd h
-no_deeper (AtLeast k) u (Assigned n) a h = absurd h
-no_deeper (WithinAtLeast k) u (Assigned n) a h = absurd h
-no_deeper (AtLeast k) u (InsideAssigned n) a h = absurd h
-no_deeper (WithinAtLeast k) u (InsideAssigned n) a h = absurd h
-no_deeper q u d a h = absurd a
+abbrev AreAlike : Option Outline → (Place → Bool) → Demand → Demand → Type 0
+AreAlike None at w d = Unit {0}
+AreAlike (Some o) at w d = demanded at w o ≡ demanded at d o
 
-are_no_deeper : (qs : List Ask) (us ds : List Demand) → Agree qs us → AreAtMost qs ds → AreNoDeeper us ds
-are_no_deeper [] [] [] a h = tt
-are_no_deeper (q ∷ qs) (u ∷ us) (d ∷ ds) a h = (no_deeper q u d a.0 h.0, are_no_deeper qs us ds a.1 h.1)
-are_no_deeper [] [] (d ∷ ds) a h = absurd h
-are_no_deeper (q ∷ qs) (u ∷ us) [] a h = absurd h
-are_no_deeper [] (u ∷ us) ds a h = absurd a
-are_no_deeper (q ∷ qs) [] ds a h = absurd a
+itself : (o : Option Outline) (at : Place → Bool) (d : Demand) → AreAlike o at d d
+itself None at d = tt
+itself (Some o) at d = refl
+
+steady_outline : (o : Option Outline) (at : Place → Bool) (n : ℕ) → IsSteady o → AreAlike o at (Whole n) (Assigned n)
+steady_outline None at n s = tt
+steady_outline (Some o) at n s = ap (λ (x : Outline). raise n (outline_depth at x)) (sym s)
+
+steady_entry : (part : Part) (at : Place → Bool) (n : ℕ) → entry_depth at (Whole n) (entry_of part) ≡ entry_depth at (Assigned n) (entry_of part)
+steady_entry (PToken (At p k)) at n = refl
+steady_entry (PExpr e) at n = refl
+steady_entry (PSign p o) at n = refl
+steady_entry (PLoop p t i cs) at n = refl
+steady_entry (PLoopTarget t) at n = refl
+steady_entry (PTargets p ts) at n = refl
+steady_entry (PClass c) at n = refl
+steady_entry (PStmt s) at n = refl
+steady_entry (PBody b) at n = refl
+
+-- demands that tell the same of a part
+abbrev Alike : Part → Demand → Demand → Type 0
+Alike part w d = (at : Place → Bool) → (entry_depth at w (entry_of part) ≡ entry_depth at d (entry_of part)) × AreAlike (part_outline part) at w d
+
+same : (part : Part) (d : Demand) → Alike part d d
+same part d = λ at. (refl, itself (part_outline part) at d)
+
+read_whole : (part : Part) (q : Ask) (u d : Demand) → Agrees (part_outline part) q u → AtMost q d → (w : Demand) × NoDeeper u w × Alike part w d
+read_whole part q u Nothing a h = (Nothing, tt, same part Nothing)
+read_whole part NoNode u (Whole n) a h = absurd h
+read_whole part (AtLeast k) (Whole m) (Whole n) a h = (Whole n, (omega arith), same part (Whole n))
+read_whole part (WithinAtLeast k) u (Whole n) a h = absurd h
+read_whole part (OpenAtLeast k) (Whole m) (Whole n) a h = (Whole n, (let e = a.0 in (omega arith)), same part (Whole n))
+read_whole part NoNode u (Inside n) a h = absurd h
+read_whole part (AtLeast k) u (Inside n) a h = absurd h
+read_whole part (WithinAtLeast k) (Inside m) (Inside n) a h = (Inside n, (omega arith), same part (Inside n))
+read_whole part (OpenAtLeast k) u (Inside n) a h = absurd h
+read_whole part NoNode u (Assigned n) a h = absurd h
+read_whole part (AtLeast k) u (Assigned n) a h = absurd h
+read_whole part (WithinAtLeast k) u (Assigned n) a h = absurd h
+read_whole part (OpenAtLeast k) (Whole m) (Assigned n) a h =
+    (Whole n, (let e = a.0 in (omega arith)), λ at. (steady_entry part at n, steady_outline (part_outline part) at n a.1))
+read_whole part NoNode u (InsideAssigned n) a h = absurd h
+read_whole part (AtLeast k) u (InsideAssigned n) a h = absurd h
+read_whole part (WithinAtLeast k) u (InsideAssigned n) a h = absurd h
+read_whole part (OpenAtLeast k) u (InsideAssigned n) a h = absurd h
+read_whole part q u d a h = absurd a
+
+max_alike : (a b m n : ℕ) → a ≡ b → m ≡ n → max a m ≡ max b n
+max_alike a b m n e f = ap (λ (x : ℕ). max x m) e ∙ ap (max b) f
+
+outlines_alike : (at : Place → Bool) (part : Part) (v : Parts) (w d : Demand) (ws ds : List Demand) → AreAlike (part_outline part) at w d
+    → depth_of at (outlines_of v) (of_outlines (entries_of v) ws) ≡ depth_of at (outlines_of v) (of_outlines (entries_of v) ds)
+    → depth_of at (outlines_of (part ∷ v)) (of_outlines (entries_of (part ∷ v)) (w ∷ ws)) ≡ depth_of at (outlines_of (part ∷ v)) (of_outlines (entries_of (part ∷ v)) (d ∷ ds))
+outlines_alike at (PToken t) v w d ws ds e r = r
+outlines_alike at (PSign p o) v w d ws ds e r = r
+outlines_alike at (PClass c) v w d ws ds e r = r
+outlines_alike at (PExpr x) v w d ws ds e r = max_alike _ _ _ _ e r
+outlines_alike at (PLoop p t i cs) v w d ws ds e r = max_alike _ _ _ _ e r
+outlines_alike at (PLoopTarget t) v w d ws ds e r = max_alike _ _ _ _ e r
+outlines_alike at (PTargets p ts) v w d ws ds e r = max_alike _ _ _ _ e r
+outlines_alike at (PStmt s) v w d ws ds e r = max_alike _ _ _ _ e r
+outlines_alike at (PBody b) v w d ws ds e r = max_alike _ _ _ _ e r
+
+-- demands that tell the same, all read as wholes
+all_whole : (v : Parts) (qs : List Ask) (us ds : List Demand) → Agree v qs us → AreAtMost qs ds
+    → (ws : List Demand) × (length ws ≡ length ds) × AreNoDeeper us ws
+    × ((at : Place → Bool) → (tokens_depth at (entries_of v) ws ≡ tokens_depth at (entries_of v) ds)
+    × (depth_of at (outlines_of v) (of_outlines (entries_of v) ws) ≡ depth_of at (outlines_of v) (of_outlines (entries_of v) ds)))
+all_whole [] [] [] [] a h = ([], refl, tt, λ at. (refl, refl))
+all_whole (part ∷ v) (q ∷ qs) (u ∷ us) (d ∷ ds) a h =
+    let x = read_whole part q u d a.0 h.0 in
+    let r = all_whole v qs us ds a.1 h.1 in (
+      x.0 ∷ r.0,
+      ap suc r.1,
+      (x.1, r.2),
+      λ at. (max_alike _ _ _ _ (x.2 at).0 (r.3 at).0, outlines_alike at part v x.0 d r.0 ds (x.2 at).1 (r.3 at).1),
+    )
+all_whole v [] us (d ∷ ds) a h = absurd h
+all_whole v (q ∷ qs) us [] a h = absurd h
+all_whole v qs us ds a h = absurd a
 
 pub least_law : LeastLaw
 least_law front symbols v b a at once more body m away h =
     let l = lower_law front more symbols v body b.asks b.at_front m b.askable b.least_is in
+    let w = all_whole v b.asks b.demands l.0 a l.2 in
+    let alike : standing at v w.0 ≡ standing at v l.0 = max_alike _ _ _ _ (w.3 at).0 (w.3 at).1 in
     let all : front ≡ b.read = b.split ∙ append-nil b.read in
-    let some : 0 < standing at v l.0 = (let k = (l.3 at).1 away in (omega arith)) in
-    let r = b.lone at (ap (is_once at) (sym all) ∙ once) b.demands l.0 l.1 (are_no_deeper b.asks b.demands l.0 a l.2) some in
+    let some : 0 < standing at v w.0 = (let k = (l.3 at).1 away in (omega arith)) in
+    let r = b.lone at (ap (is_once at) (sym all) ∙ once) b.demands w.0 (w.1 ∙ l.1) w.2 some in
     (r.0, (let k = (l.3 at).0 in let j = r.1 in (omega arith)))

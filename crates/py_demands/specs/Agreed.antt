@@ -1,5 +1,5 @@
 -- Where what is asked at least is what is asked when the symbols are closed.
-use Rattle.std.specs.Prelude.{◌≡◌, ◌≤◌, ◌<◌, Bool, true, List, [], ◌∷◌, ◌++◌}
+use Rattle.std.specs.Prelude.{◌≡◌, ◌≤◌, ◌<◌, Bool, true, List, [], ◌∷◌, ◌++◌, Option, Some, None}
 use Rattle.py_tokens.specs.Token.{Place}
 use Rattle.py_syntax.specs.Token.{Token}
 use Rattle.py_syntax.specs.Tree.{Body}
@@ -7,29 +7,37 @@ use Rattle.py_syntax.specs.Build.{Parts}
 use Rattle.py_syntax.specs.Grammar.{IsModule}
 use Rattle.py_syntax.specs.Table.{Symbol}
 use Rattle.py_nesting.specs.Depths.{body_depth}
+use Rattle.py_nesting.specs.Outlines.{Outline, as_targets}
+use Rattle.py_nesting.specs.Shapes.{part_outline}
 use Rattle.py_nesting.specs.Walk.{Demand, Whole, Inside}
 use Rattle.py_demands.specs.Asks.{avoids}
-use Rattle.py_demands.specs.Least.{Ask, NoNode, AtLeast, WithinAtLeast}
+use Rattle.py_demands.specs.Least.{Ask, NoNode, AtLeast, WithinAtLeast, OpenAtLeast}
 use Rattle.py_demands.specs.Bound.{standing}
 use Rattle.py_demands.specs.Behind.{is_once, Behind}
 
--- what may be targets yet is left out
-abbrev pub Agrees : Ask → Demand → Type 0
-Agrees NoNode d = Unit {0}
-Agrees (AtLeast m) (Whole n) = m ≡ n
-Agrees (WithinAtLeast m) (Inside n) = m ≡ n
-Agrees q d = ⊥
+-- as targets a part has the same nodes
+abbrev pub IsSteady : Option Outline → Type 0
+IsSteady None = Unit {0}
+IsSteady (Some o) = as_targets o ≡ o
 
-abbrev pub Agree : List Ask → List Demand → Type 0
-Agree [] [] = Unit {0}
-Agree (q ∷ qs) (d ∷ ds) = Agrees q d × Agree qs ds
-Agree qs ds = ⊥
+-- tuples that may be targets yet are left out
+abbrev pub Agrees : Option Outline → Ask → Demand → Type 0
+Agrees o NoNode d = Unit {0}
+Agrees o (AtLeast m) (Whole n) = m ≡ n
+Agrees o (WithinAtLeast m) (Inside n) = m ≡ n
+Agrees o (OpenAtLeast m) (Whole n) = (m ≡ n) × IsSteady o
+Agrees o q d = ⊥
+
+abbrev pub Agree : Parts → List Ask → List Demand → Type 0
+Agree [] [] [] = Unit {0}
+Agree (part ∷ v) (q ∷ qs) (d ∷ ds) = Agrees (part_outline part) q d × Agree v qs ds
+Agree v qs ds = ⊥
 
 -- Where both agree, and one token of the front at most stands at a place, the nodes there are in no module that begins with the front,
 -- has any there and has no other token there less deep than the closing symbols ask.
 abbrev pub LeastLaw : Type 0
 LeastLaw =
-    (front : List Token) (symbols : List Symbol) (v : Parts) (b : Behind front [] symbols v) → Agree b.asks b.demands
+    (front : List Token) (symbols : List Symbol) (v : Parts) (b : Behind front [] symbols v) → Agree v b.asks b.demands
     → (at : Place → Bool) → is_once at front ≡ true
     → (more : List Token) (body : Body) → IsModule body (front ++ more) → avoids at more ≡ true → 0 < body_depth at body
     → (0 < standing at v b.demands) × (standing at v b.demands ≤ body_depth at body)
