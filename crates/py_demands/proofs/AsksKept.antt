@@ -7,6 +7,7 @@ use Rattle.py_nesting.specs.Walk.{Demand, Nothing, Whole, Inside, Assigned, come
 use Rattle.py_demands.specs.Roles.{Change, Below, Apart, Loose, Turned, Role, Lost, Head, Through, changed, all_changed, at_token, asked_by, roles, asked_before}
 use Rattle.py_demands.specs.Least.{Ask, NoNode, AtLeast, WithinAtLeast, OpenAtLeast, ask_changed, ask_all_changed, ask_by, ask_head, before_action, is_below, asks_no_more, ask_no_more}
 use Rattle.py_demands.specs.AtMost.{AtMost, AreAtMost}
+use Rattle.py_fronts.proofs.TreesBegin.{some_is}
 
 change_kept : (c : Change) (q : Ask) (d : Demand) → AtMost q d → AtMost (ask_changed c q) (changed c d)
 change_kept (Below l) q Nothing h = tt
@@ -68,9 +69,6 @@ pub drops_or_leaves : (a : Action) → (a ≡ Drop)
     × (before_action a [] ≡ None))
 drops_or_leaves Drop = inl refl
 drops_or_leaves _ = inr ((λ d ds. refl), (λ q qs. refl), refl)
-
-pub some_is : {A : Type 0} (x y : A) → Some x ≡ Some y → x ≡ y
-some_is x y e = (cc)
 
 pub action_kept : (a : Action) (qs bs : List Ask) (ds : List Demand) → before_action a qs ≡ Some bs → AreAtMost qs ds → AreAtMost bs (asked_before a ds)
 action_kept a qs bs ds e h = go (drops_or_leaves a) qs ds e h

@@ -31,7 +31,8 @@ use Rattle.py_demands.specs.Least.{Ask, ask_least, low, before, least, may_ask_f
 use Rattle.py_demands.specs.AtMost.{AreAtMost}
 use Rattle.py_demands.specs.Bound.{standing}
 use Rattle.py_demands.proofs.EffectsTied.{tied}
-use Rattle.py_demands.proofs.AsksKept.{action_kept, no_more_all, some_is}
+use Rattle.py_demands.proofs.AsksKept.{action_kept, no_more_all}
+use Rattle.py_fronts.proofs.TreesBegin.{some_is}
 use Rattle.py_demands.proofs.LowRows.{low_row, least_frame, least_joined, askable_joined}
 
 pub record Bounds (symbols : List Symbol) (v w : Parts) (ts : List Token) (ds : List Demand) : Type 0 where

@@ -28,7 +28,7 @@ use Rattle.py_demands.specs.Asks.{avoids}
 use Rattle.py_demands.specs.Closing.{closing, exactly_by, exactly_before, exactly}
 use Rattle.py_demands.specs.Bound.{standing}
 use Rattle.py_demands.proofs.EffectsTied.{tied}
-use Rattle.py_demands.proofs.AsksKept.{some_is}
+use Rattle.py_fronts.proofs.TreesBegin.{some_is}
 use Rattle.py_demands.proofs.Bounded.{stands_before, stands_behind, token_avoided}
 use Rattle.py_demands.proofs.RowsClose.{is_row, closes, closed_below, closed_by_specimens}
 

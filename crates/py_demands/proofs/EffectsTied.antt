@@ -35,7 +35,7 @@ found_if : (b : Bool) (a : Action) (es new : List Entry) (events : List Event) (
 found_if true a es new events r h t = found a es new events r h t
 found_if false a es new events r h t = absurd (cc)
 
-no_effect : {A : Type 0} {r : Effect} → None ≡ Some r → A
+pub no_effect : {A : Type 0} {r : Effect} → None ≡ Some r → A
 no_effect e = absurd (cc)
 
 token_met : (at : Place → Bool) (p : Place) (o : Option ℕ) → demanded at (at_token o) (leaf p) ≡ met_depth at (met p o [])

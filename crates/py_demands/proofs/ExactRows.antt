@@ -7,7 +7,7 @@ use Rattle.py_syntax.specs.Table.{Symbol, Nonterminal, Module, rows}
 use Rattle.py_nesting.specs.Walk.{Demand, Nothing}
 use Rattle.py_demands.specs.Roles.{asked_by, roles}
 use Rattle.py_demands.specs.Closing.{asks_exactly, exactly_by, exactly_symbol, exactly_before, exactly}
-use Rattle.py_demands.proofs.AsksKept.{some_is}
+use Rattle.py_fronts.proofs.TreesBegin.{some_is}
 
 abbrev is_there : Option (List Demand) → Bool
 is_there None = false

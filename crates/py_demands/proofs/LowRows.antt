@@ -9,7 +9,8 @@ use Rattle.py_nesting.specs.Walk.{Demand}
 use Rattle.py_fronts.specs.Kinds.{gives}
 use Rattle.py_demands.specs.Roles.{Change, Below, Apart, Loose, Turned, Role, Lost, Head, Through, asked_by, roles, asked_before}
 use Rattle.py_demands.specs.Least.{Ask, NoNode, AtLeast, WithinAtLeast, OpenAtLeast, ask_changed, ask_all_changed, ask_head, ask_by, Least, As, Opened, ask_least, low, before_action, before_symbol, before, least, gives_expression, gives_items, may_ask, may_ask_first, are_askable, asks_no_more, ask_no_more}
-use Rattle.py_demands.proofs.AsksKept.{drops_or_leaves, some_is}
+use Rattle.py_demands.proofs.AsksKept.{drops_or_leaves}
+use Rattle.py_fronts.proofs.TreesBegin.{some_is}
 use Rattle.py_demands.proofs.RowsLow.{no_more, row_is_low, rows_are_low, all_low}
 
 -- one more above

@@ -1,5 +1,5 @@
 -- The nodes of the parts behind a front stand no less deep in a module that begins with it.
-use Rattle.std.proofs.Common.{◌≡◌, ℕ, zero, suc, Bool, [], ◌∷◌, refl, arith}
+use Rattle.std.proofs.Common.{◌≡◌, Bool, [], ◌∷◌, refl, arith}
 use Rattle.py_tokens.specs.Token.{Place}
 use Rattle.py_syntax.specs.Tree.{Body}
 use Rattle.py_syntax.specs.Laws.{finished}
@@ -9,13 +9,10 @@ use Rattle.py_nesting.specs.TreeOutlines.{body_outline}
 use Rattle.py_nesting.specs.Walk.{Whole, raise}
 use Rattle.py_nesting.proofs.OutlinesCount.{outline_law}
 use Rattle.py_fronts.proofs.FrontsReached.{completion_law}
+use Rattle.py_fronts.proofs.DepthsGo.{from_the_top}
 use Rattle.py_demands.specs.Least.{AtLeast}
 use Rattle.py_demands.specs.Bound.{standing, LowerLaw}
 use Rattle.py_demands.proofs.Bounded.{bounded}
-
-from_the_top : (n : ℕ) → raise 0 n ≡ n
-from_the_top zero = refl
-from_the_top (suc n) = omega arith
 
 pub whole_stands : (at : Place → Bool) (body : Body) → standing at (finished body) (Whole 0 ∷ []) ≡ body_depth at body
 whole_stands at body =

@@ -1,17 +1,18 @@
 -- Where a statement begins that is made of an expression or of targets, a deeper node of theirs stands.
-use Rattle.std.proofs.Common.{◌≡◌, ℕ, zero, suc, max, ◌≤◌, Bool, true, false, List, [], ◌∷◌, Some, None, refl, arith}
+use Rattle.std.proofs.Common.{◌≡◌, ℕ, zero, suc, max, ◌≤◌, Bool, true, false, List, [], ◌∷◌, Some, refl, arith}
 use Rattle.py_tokens.specs.Token.{Place}
 use Rattle.py_syntax.specs.Build.{start_of, PToken, PExpr, PTargets, Parts, Action, MakeExprStmt, MakeAssign, MakeAugmented}
 use Rattle.py_nesting.specs.Depths.{here}
 use Rattle.py_nesting.specs.Outlines.{Plain, Outline, Group, Event, outline_depth}
 use Rattle.py_nesting.specs.TreeOutlines.{expr_outline, assigned_outlines}
 use Rattle.py_nesting.specs.Shapes.{Entry, entries_of, outlines_of}
-use Rattle.py_nesting.specs.Effects.{Effect, effect, effect_of}
+use Rattle.py_nesting.specs.Effects.{effect, effect_of}
 use Rattle.py_nesting.specs.Walk.{Demand, Nothing, Whole, Inside, Assigned, InsideAssigned, raise, demanded, below, comes, met, met_depth, depth_of}
 use Rattle.py_fronts.specs.Begins.{Begin}
 use Rattle.py_fronts.proofs.TreesBegin.{expr_begins}
 use Rattle.py_demands.specs.Roles.{asked_before}
 use Rattle.py_demands.specs.Asks.{of_outlines, starts_depth}
+use Rattle.py_demands.proofs.EffectsTied.{no_effect}
 
 whole_below : (n k : ℕ) (b : Bool) → (b ≡ true → 1 ≤ k) → max (raise n (here b)) 0 ≤ raise (suc n) k
 whole_below n k false h = omega arith
@@ -25,9 +26,6 @@ start_below at p o (Whole n) h = whole_below n (outline_depth at o) (at p) h
 start_below at p o (Inside n) h = omega arith
 start_below at p o (Assigned n) h = whole_below n (outline_depth at o) (at p) h
 start_below at p o (InsideAssigned n) h = omega arith
-
-no_effect : {A : Type 0} {r : Effect} → None ≡ Some r → A
-no_effect e = absurd (cc)
 
 pub starts_below : (a : Action) (v : Parts) (at : Place → Bool) (ds : List Demand) (new : List Entry) (events : List Event) → Begin v → effect_of a (entries_of v) ≡ Some (effect new events)
     → starts_depth at a (entries_of v) ds ≤ depth_of at (outlines_of v) (of_outlines (entries_of v) (asked_before a ds))

@@ -35,7 +35,7 @@ pub walk_both : (at : Place → Bool) (later events : List Event) (ds : List Dem
 walk_both at [] events ds = omega arith
 walk_both at (e ∷ later) events ds = brought_more at e ds _ _ _ (walk_both at later events (back e ds))
 
-from_the_top : (n : ℕ) → raise 0 n ≡ n
+pub from_the_top : (n : ℕ) → raise 0 n ≡ n
 from_the_top zero = refl
 from_the_top (suc n) = omega arith
 

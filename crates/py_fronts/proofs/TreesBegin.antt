@@ -49,7 +49,7 @@ mutual
   expr_begins at (EOr p a b es) h = in_first (at p) _ _ (expr_begins at a h)
   expr_begins at (EConditional p a t b) h = in_first (at p) _ _ (expr_begins at a h)
 
-some_is : {A : Type 0} (x y : A) → Some x ≡ Some y → x ≡ y
+pub some_is : {A : Type 0} (x y : A) → Some x ≡ Some y → x ≡ y
 some_is x y e = (cc)
 
 target_begins : (at : Place → Bool) (e : Expr) (t : Target) → target_of e ≡ Some t → at (start_of e) ≡ true → 1 ≤ outline_depth at (target_outline t)
