@@ -15,7 +15,7 @@ use Rattle.cpp_meaning.specs.Typing.{Types}
 use Rattle.cpp_meaning.specs.Machine.{Cells, Word, held, truth_word, operation, operate, evaluate}
 use Rattle.shed_meaning.specs.EmittedName.{global_name}
 use Rattle.cpp_emit.specs.Emit.{emit_operator, emit_expr, emit_comparison, emit_condition}
-use Rattle.cpp_emit.proofs.GlobalsBound.{first_true, second_true}
+use Rattle.grammars.proofs.Bools.{and_left, and_right}
 use Rattle.cpp_emit.proofs.WellTyped.{Knows, emitted_type}
 
 -- a program of one module
@@ -116,15 +116,15 @@ module _ (main : Module) (types : Types) (cells : Cells) (globals : Map Global V
   )
   evaluates (EUnary p o e) sure = evaluates_unary p o e sure (evaluates e sure)
   evaluates (EBinary p o a b) sure =
-      evaluates_binary p o a b (first_true _ _ sure) (evaluates a (first_true _ _ sure)) (evaluates b (second_true _ _ sure))
+      evaluates_binary p o a b (and_left _ _ sure) (evaluates a (and_left _ _ sure)) (evaluates b (and_right _ _ sure))
 
   pub tests : (c : Condition) → condition_reads_only assigned c ≡ true → Tests main types cells globals c
   tests (CCompare p o a b) sure =
       let m = machine (one_module main) in
-      let v = evaluates a (first_true _ _ sure) in
-      let w = evaluates b (second_true _ _ sure) in (
+      let v = evaluates a (and_left _ _ sure) in
+      let w = evaluates b (and_right _ _ sure) in (
         compared o v.0 w.0,
-        ap (λ t. operate t (emit_comparison o) (evaluate types cells (emit_expr a)) (evaluate types cells (emit_expr b))) (emitted_type types assigned a known (first_true _ _ sure))
+        ap (λ t. operate t (emit_comparison o) (evaluate types cells (emit_expr a)) (evaluate types cells (emit_expr b))) (emitted_type types assigned a known (and_left _ _ sure))
             ∙ ap (λ c. operate (Some Int32) (emit_comparison o) c (evaluate types cells (emit_expr b))) v.1
             ∙ ap (λ c. operate (Some Int32) (emit_comparison o) (Word v.0) c) w.1
             ∙ ap (λ k. Word k) (same_comparison o v.0 w.0),

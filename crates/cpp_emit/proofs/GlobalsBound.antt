@@ -1,25 +1,11 @@
 -- What the rule on reads and the list of globals say of the names of a body.
 use Rattle.std.proofs.Common.{◌≡◌, List, [], ◌∷◌, ◌++◌, Bool, true, false, refl, sym, ap, ◌∙◌, subst}
-use Rattle.std.specs.Prelude.{◌&&◌, ◌||◌, if◌then◌else◌}
+use Rattle.std.specs.Prelude.{◌||◌, if◌then◌else◌}
+use Rattle.grammars.proofs.Bools.{on_right}
 use Rattle.py_meaning.specs.Name.{Name, same_name}
 use Rattle.py_meaning.specs.Rules.{has_name}
 use Rattle.py_meaning.specs.Binding.{once}
 use Rattle.cpp_emit.proofs.NamesApart.{same_is, same_self}
-
-pub first_true : (p q : Bool) → (p && q) ≡ true → p ≡ true
-first_true true q e = refl
-first_true false q e = e
-
-pub second_true : (p q : Bool) → (p && q) ≡ true → q ≡ true
-second_true true q e = e
-second_true false q e = cc
-
-pub or_left : (p q : Bool) → p ≡ true → (p || q) ≡ true
-or_left p q e = ap (λ b. b || q) e
-
-pub or_right : (p q : Bool) → q ≡ true → (p || q) ≡ true
-or_right true q e = refl
-or_right false q e = e
 
 -- the names of two lists
 has_more : (names others : List Name) (x : Name) (same : Bool) → (has_name names x ≡ true → has_name (names ++ others) x ≡ true) → (same || has_name names x) ≡ true → (same || has_name (names ++ others) x) ≡ true
@@ -32,7 +18,7 @@ has_front (y ∷ names) others x h = has_more names others x (same_name y x) (λ
 
 pub has_back : (names others : List Name) (x : Name) → has_name others x ≡ true → has_name (names ++ others) x ≡ true
 has_back [] others x h = h
-has_back (y ∷ names) others x h = or_right (same_name y x) (has_name (names ++ others) x) (has_back names others x h)
+has_back (y ∷ names) others x h = on_right (same_name y x) (has_name (names ++ others) x) (has_back names others x h)
 
 -- a name is among those that are kept once, unless it was there before
 once_here : (y : Name) (same seen_y : Bool) (seen names : List Name) (x : Name) → same_name y x ≡ same → has_name seen y ≡ seen_y → has_name seen x ≡ false → (same || has_name names x) ≡ true → ((now : List Name) → has_name names x ≡ true → has_name now x ≡ false → has_name (once now names) x ≡ true) → has_name (if seen_y then once seen names else y ∷ once (y ∷ seen) names) x ≡ true

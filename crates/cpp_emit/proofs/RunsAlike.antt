@@ -23,7 +23,7 @@ use Rattle.shed_meaning.specs.EmittedName.{global_name, body_name}
 use Rattle.shed_meaning.specs.Layout.{variables}
 use Rattle.cpp_emit.specs.Emit.{emit_expr, emit_condition, printed, emit_if, emit_stmt, emit_body, stmt_prints, prints, emit_block, emit}
 use Rattle.cpp_emit.proofs.NamesApart.{same_self, same_globals, other_globals, temporary_apart}
-use Rattle.cpp_emit.proofs.GlobalsBound.{first_true, second_true, or_right}
+use Rattle.grammars.proofs.Bools.{and_left, and_right, on_right}
 use Rattle.cpp_emit.proofs.WellTyped.{no_name, Knows, emitted_type, knows_front, knows_back, knows_after, if_left, if_right, chosen, globals_known, one_main}
 use Rattle.cpp_emit.proofs.Evaluation.{one_module, source_at, Agree, evaluates, tests}
 
@@ -98,7 +98,7 @@ both_tick P C n s s' t t' left right b =
     (b.0, b.1, b.2, ticks_on (source_machine P) n s s' (Gives b.0 b.1) left b.3, ticks_on (machine C) n t t' (Gives b.0 b.1) right b.4)
 
 agree_fewer : (s : SourceStmt) (assigned : List Name) (globals : Map Global Value) (cells : Cells) → Agree (sure_after s assigned) globals cells → Agree assigned globals cells
-agree_fewer (SAssign p x e) assigned globals cells agree y h = agree y (or_right (same_name x y) (has_name assigned y) h)
+agree_fewer (SAssign p x e) assigned globals cells agree y h = agree y (on_right (same_name x y) (has_name assigned y) h)
 agree_fewer (SPrint p c e) assigned globals cells agree y h = agree y h
 agree_fewer (SIf p c body other) assigned globals cells agree y h = agree y h
 agree_fewer (SWhile p c body) assigned globals cells agree y h = agree y h
@@ -279,21 +279,21 @@ module _ (main : Module) (C : Program) (locals_types : Types) (hidden : Hides lo
     stmt_alike (SPrint p c e) n assigned control contexts rest blocks sure known text after =
         print_alike p c e n assigned control contexts rest blocks sure known (text refl) (after n (omega arith))
     stmt_alike (SIf p c body other) n assigned control contexts rest blocks sure known text after =
-        if_alike p c body other n assigned control contexts rest blocks (first_true _ _ sure) known
-        (body_alike body assigned (first_true _ _ (second_true _ _ sure)) known (if_left (prints body) (prints other) text) n control contexts (rest ∷ blocks) after)
-        (body_alike other assigned (second_true _ _ (second_true _ _ sure)) known (if_right (prints body) (prints other) text) n control contexts (rest ∷ blocks) after)
+        if_alike p c body other n assigned control contexts rest blocks (and_left _ _ sure) known
+        (body_alike body assigned (and_left _ _ (and_right _ _ sure)) known (if_left (prints body) (prints other) text) n control contexts (rest ∷ blocks) after)
+        (body_alike other assigned (and_right _ _ (and_right _ _ sure)) known (if_right (prints body) (prints other) text) n control contexts (rest ∷ blocks) after)
     stmt_alike (SWhile p c body) n assigned control contexts rest blocks sure known text after =
         enter_alike p c body n assigned control contexts rest blocks
-        (loop_alike n n (omega arith) c body assigned control contexts rest blocks (first_true _ _ sure) known
-        (body_alike body assigned (second_true _ _ sure) known text) after)
+        (loop_alike n n (omega arith) c body assigned control contexts rest blocks (and_left _ _ sure) known
+        (body_alike body assigned (and_right _ _ sure) known text) after)
 
     body_alike : (body : Body) (assigned : List Name) → body_reads_only assigned body ≡ true → Knows types (has_name assigned) → (prints body ≡ true → locals_types printed ≡ Some Text) → BodyFollows body assigned
     body_alike nothing_left assigned sure known text n control contexts blocks after = none_alike n assigned control contexts blocks (after n (omega arith))
     body_alike (and_then s body) assigned sure known text n control contexts blocks after =
         more_alike s body n assigned control contexts blocks
-        (stmt_alike s n assigned (Run body ∷ control) contexts (emit_body body) blocks (first_true _ _ sure) known (if_left (stmt_prints s) (prints body) text)
+        (stmt_alike s n assigned (Run body ∷ control) contexts (emit_body body) blocks (and_left _ _ sure) known (if_left (stmt_prints s) (prints body) text)
         (fewer_names s n assigned (Run body ∷ control) contexts (emit_body body ∷ blocks)
-        (λ m le. body_alike body assigned (second_true _ _ sure) known (if_right (stmt_prints s) (prints body) text) m control contexts blocks (λ k q. after k (omega arith)))))
+        (λ m le. body_alike body assigned (and_right _ _ sure) known (if_right (stmt_prints s) (prints body) text) m control contexts blocks (λ k q. after k (omega arith)))))
 
   done_alike : (n : ℕ) (assigned : List Name) → Follows n assigned (Run nothing_left ∷ []) [] (none ∷ [])
   done_alike n assigned globals locals cells output hides agree = (output, Done, tt, (3, refl), (3, refl))
@@ -303,8 +303,8 @@ module _ (main : Module) (C : Program) (locals_types : Types) (hidden : Hides lo
   module_alike nothing_left assigned sure known bound text n = done_alike n assigned
   module_alike (and_then s body) assigned sure known bound text n =
       more_alike s body n assigned [] [] []
-      (stmt_alike s n assigned (Run body ∷ []) [] (emit_body body) [] (first_true _ _ sure) known (if_left (stmt_prints s) (prints body) text)
-      (λ m le. module_alike body (sure_after s assigned) (second_true _ _ sure) (knows_after types s assigned (knows_front types (targets_of s) (targets body) bound) known) (knows_back types (targets_of s) (targets body) bound) (if_right (stmt_prints s) (prints body) text) m))
+      (stmt_alike s n assigned (Run body ∷ []) [] (emit_body body) [] (and_left _ _ sure) known (if_left (stmt_prints s) (prints body) text)
+      (λ m le. module_alike body (sure_after s assigned) (and_right _ _ sure) (knows_after types s assigned (knows_front types (targets_of s) (targets body) bound) known) (knows_back types (targets_of s) (targets body) bound) (if_right (stmt_prints s) (prints body) text) m))
 
 -- no variable stands for the body
 block_found : (names : List Name) (name : Name) (block : Block) → block_in ((variables 0 names ++ BodyDefinition (body_name name) block ∷ Main (body_name name) ∷ []) ++ []) (body_name name) ≡ block

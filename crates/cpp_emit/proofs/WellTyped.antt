@@ -14,7 +14,8 @@ use Rattle.shed_meaning.specs.EmittedName.{global_name, body_name}
 use Rattle.shed_meaning.specs.Layout.{externs, variables, HasTemporariesAlone}
 use Rattle.cpp_emit.specs.Emit.{emit_operator, emit_expr, printed, emit_comparison, emit_condition, emit_if, emit_stmt, emit_body, stmt_prints, prints, emit_block, emit}
 use Rattle.cpp_emit.proofs.NamesApart.{same_self, same_globals, other_globals, temporary_apart}
-use Rattle.cpp_emit.proofs.GlobalsBound.{first_true, second_true, or_left, or_right, has_front, has_back, once_has, AreDistinct, once_distinct}
+use Rattle.grammars.proofs.Bools.{and_left, and_right, on_left, on_right}
+use Rattle.cpp_emit.proofs.GlobalsBound.{has_front, has_back, once_has, AreDistinct, once_distinct}
 
 -- these names are those of numbers
 abbrev pub Knows : Types → (Name → Bool) → Type 0
@@ -25,8 +26,8 @@ emitted_type types assigned (EName p x) knows sure = knows x sure
 emitted_type types assigned (ENumber p n) knows sure = refl
 emitted_type types assigned (EUnary p o e) knows sure = ap (λ t. type_of_operation Minus t t) (emitted_type types assigned e knows sure)
 emitted_type types assigned (EBinary p o a b) knows sure =
-    ap (λ t. type_of_operation (emit_operator o) t (type_of types (emit_expr b))) (emitted_type types assigned a knows (first_true _ _ sure))
-    ∙ ap (λ t. type_of_operation (emit_operator o) (Some Int32) t) (emitted_type types assigned b knows (second_true _ _ sure))
+    ap (λ t. type_of_operation (emit_operator o) t (type_of types (emit_expr b))) (emitted_type types assigned a knows (and_left _ _ sure))
+    ∙ ap (λ t. type_of_operation (emit_operator o) (Some Int32) t) (emitted_type types assigned b knows (and_right _ _ sure))
     ∙ number_result o
   where
     number_result : (o : Binary) → type_of_operation (emit_operator o) (Some Int32) (Some Int32) ≡ Some Int32
@@ -45,8 +46,8 @@ truth_result NotEqualTo = refl
 -- what is tested is a truth value
 pub condition_type : (types : Types) (assigned : List Name) (c : Condition) → Knows types (has_name assigned) → condition_reads_only assigned c ≡ true → type_of types (emit_condition c) ≡ Some Truth
 condition_type types assigned (CCompare p o a b) knows sure =
-    ap (λ t. type_of_operation (emit_comparison o) t (type_of types (emit_expr b))) (emitted_type types assigned a knows (first_true _ _ sure))
-    ∙ ap (λ t. type_of_operation (emit_comparison o) (Some Int32) t) (emitted_type types assigned b knows (second_true _ _ sure))
+    ap (λ t. type_of_operation (emit_comparison o) t (type_of types (emit_expr b))) (emitted_type types assigned a knows (and_left _ _ sure))
+    ∙ ap (λ t. type_of_operation (emit_comparison o) (Some Int32) t) (emitted_type types assigned b knows (and_right _ _ sure))
     ∙ truth_result o
 
 knows_or : (types : Types) (x : Name) (has : Name → Bool) → types (global_name 0 x) ≡ Some Int32 → Knows types has → (y : Name) (same : Bool) → same_name x y ≡ same → (same || has y) ≡ true → types (global_name 0 y) ≡ Some Int32
@@ -76,10 +77,10 @@ knows_after types (SWhile p c body) assigned bound knows = knows
 
 -- the first of two truths that say the same
 pub if_left : {P : Type 0} (p q : Bool) → ((p || q) ≡ true → P) → p ≡ true → P
-if_left p q f e = f (or_left p q e)
+if_left p q f e = f (on_left p q e)
 
 pub if_right : {P : Type 0} (p q : Bool) → ((p || q) ≡ true → P) → q ≡ true → P
-if_right p q f e = f (or_right p q e)
+if_right p q f e = f (on_right p q e)
 
 typed_if : (globals locals : Types) (e : CppExpr) (block other rest : Block) → type_of (in_scope locals globals) e ≡ Some Truth → IsTypedBlock false globals locals block → IsTypedBlock false globals locals other → IsTypedBlock false globals locals rest → (first : Bool) → IsTypedBlock first globals locals (more (emit_if e block other) rest)
 typed_if globals locals e block none rest test t u v first = (test, t, v)
@@ -97,13 +98,13 @@ mutual
   )
   typed_stmt (SIf p c body other) first globals locals assigned rest sure known bound text typed =
       typed_if globals locals (emit_condition c) (emit_body body) (emit_body other) rest
-      (condition_type (in_scope locals globals) assigned c known (first_true _ _ sure))
-      (typed_body body globals locals assigned (first_true _ _ (second_true _ _ sure)) known (knows_front (in_scope locals globals) (targets body) (targets other) bound) (if_left (prints body) (prints other) text))
-      (typed_body other globals locals assigned (second_true _ _ (second_true _ _ sure)) known (knows_back (in_scope locals globals) (targets body) (targets other) bound) (if_right (prints body) (prints other) text))
+      (condition_type (in_scope locals globals) assigned c known (and_left _ _ sure))
+      (typed_body body globals locals assigned (and_left _ _ (and_right _ _ sure)) known (knows_front (in_scope locals globals) (targets body) (targets other) bound) (if_left (prints body) (prints other) text))
+      (typed_body other globals locals assigned (and_right _ _ (and_right _ _ sure)) known (knows_back (in_scope locals globals) (targets body) (targets other) bound) (if_right (prints body) (prints other) text))
       typed first
   typed_stmt (SWhile p c body) first globals locals assigned rest sure known bound text typed = (
-    condition_type (in_scope locals globals) assigned c known (first_true _ _ sure),
-    typed_body body globals locals assigned (second_true _ _ sure) known bound text,
+    condition_type (in_scope locals globals) assigned c known (and_left _ _ sure),
+    typed_body body globals locals assigned (and_right _ _ sure) known bound text,
     typed,
   )
 
@@ -111,8 +112,8 @@ mutual
   typed_body : (body : Body) (globals locals : Types) (assigned : List Name) → body_reads_only assigned body ≡ true → Knows (in_scope locals globals) (has_name assigned) → Knows (in_scope locals globals) (has_name (targets body)) → (prints body ≡ true → in_scope locals globals printed ≡ Some Text) → IsTypedBlock false globals locals (emit_body body)
   typed_body nothing_left globals locals assigned sure known bound text = tt
   typed_body (and_then s body) globals locals assigned sure known bound text =
-      typed_stmt s false globals locals assigned (emit_body body) (first_true _ _ sure) known (knows_front (in_scope locals globals) (targets_of s) (targets body) bound) (if_left (stmt_prints s) (prints body) text)
-      (typed_body body globals locals assigned (second_true _ _ sure) known (knows_back (in_scope locals globals) (targets_of s) (targets body) bound) (if_right (stmt_prints s) (prints body) text))
+      typed_stmt s false globals locals assigned (emit_body body) (and_left _ _ sure) known (knows_front (in_scope locals globals) (targets_of s) (targets body) bound) (if_left (stmt_prints s) (prints body) text)
+      (typed_body body globals locals assigned (and_right _ _ sure) known (knows_back (in_scope locals globals) (targets_of s) (targets body) bound) (if_right (stmt_prints s) (prints body) text))
 
 -- the whole module
 typed_module : (body : Body) (first : Bool) (globals locals : Types) (assigned : List Name) → are_reads_sure assigned body ≡ true → Knows (in_scope locals globals) (has_name assigned) → Knows (in_scope locals globals) (has_name (targets body)) → (prints body ≡ true → in_scope locals globals printed ≡ Some Text) → IsTypedBlock first globals locals (emit_body body)
@@ -120,8 +121,8 @@ typed_module nothing_left first globals locals assigned sure known bound text = 
 typed_module (and_then s body) first globals locals assigned sure known bound text =
     let types = in_scope locals globals in
     let front = knows_front types (targets_of s) (targets body) bound in
-    typed_stmt s first globals locals assigned (emit_body body) (first_true _ _ sure) known front (if_left (stmt_prints s) (prints body) text)
-    (typed_module body false globals locals (sure_after s assigned) (second_true _ _ sure) (knows_after types s assigned front known) (knows_back types (targets_of s) (targets body) bound) (if_right (stmt_prints s) (prints body) text))
+    typed_stmt s first globals locals assigned (emit_body body) (and_left _ _ sure) known front (if_left (stmt_prints s) (prints body) text)
+    (typed_module body false globals locals (sure_after s assigned) (and_right _ _ sure) (knows_after types s assigned front known) (knows_back types (targets_of s) (targets body) bound) (if_right (stmt_prints s) (prints body) text))
 
 -- the locals of a body that prints hide no global
 hides_none : (globals : Types) (x : Name) → in_scope (put same_identifier nothing printed Text) globals (global_name 0 x) ≡ globals (global_name 0 x)

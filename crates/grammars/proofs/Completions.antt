@@ -57,46 +57,55 @@ HasWay {N} {A} {T} {V} G S Leads x v =
 -- what holds of symbols where it holds step by step, each token being the specimen of its kind
 pub record IsLed {N A T V : Type 0} (G : Grammar N A T V) (S : Sets N T) (Leads : List (Sym N A) → V → V → Type 0) : Type 0 where
   pub nothing : (v : V) → Leads [] v v
-  pub token : (k : ℕ) (symbols : List (Sym N A)) (v w : V) → Leads symbols (G.take_in (S.specimen k) v) w → Leads (Tok k ∷ symbols) v w
+  pub token : (k : ℕ) (symbols : List (Sym N A)) (v w : V) → G.kind (S.specimen k) ≡ k → Leads symbols (G.take_in (S.specimen k) v) w → Leads (Tok k ∷ symbols) v w
   pub action : (a : A) (symbols : List (Sym N A)) (v w : V) → Leads symbols (G.act a v) w → Leads (Do a ∷ symbols) v w
   pub rows : (x : N) (v : V) → HasWay G S Leads x v
 
--- the symbols derive something from v, and lead there
-abbrev pub IsAnswered : {N A T V : Type 0} → Grammar N A T V → (List (Sym N A) → V → V → Type 0) → List (Sym N A) → V → Type 0
-IsAnswered {N} {A} {T} {V} G Leads symbols v = (ts : List T) × (w : V) × Yields G symbols v ts w × Leads symbols v w
+-- each token is the specimen of some kind
+abbrev pub AreSpecimens : {N T : Type 0} → Sets N T → List T → Type 0
+AreSpecimens S [] = Unit {0}
+AreSpecimens S (t ∷ ts) = ((k : ℕ) × (t ≡ S.specimen k)) × AreSpecimens S ts
+
+specimens_both : {N T : Type 0} (S : Sets N T) (ts us : List T) → AreSpecimens S ts → AreSpecimens S us → AreSpecimens S (ts ++ us)
+specimens_both S [] us h k = k
+specimens_both S (t ∷ ts) us h k = (h.0, specimens_both S ts us h.1 k)
+
+-- the symbols derive specimens from v, and lead there
+abbrev pub IsAnswered : {N A T V : Type 0} → Grammar N A T V → Sets N T → (List (Sym N A) → V → V → Type 0) → List (Sym N A) → V → Type 0
+IsAnswered {N} {A} {T} {V} G S Leads symbols v = (ts : List T) × (w : V) × Yields G symbols v ts w × Leads symbols v w × AreSpecimens S ts
 
 -- if all symbols of ranks below n are answered, so are those of ranks up to n
 one_rank : {N A T V : Type 0} (G : Grammar N A T V) (S : Sets N T) (Leads : List (Sym N A) → V → V → Type 0) → IsLed G S Leads → (n : ℕ)
-    → ((symbols : List (Sym N A)) (v : V) → are_below S n symbols ≡ true → have_specimens G S symbols ≡ true → IsAnswered G Leads symbols v)
-    → (symbols : List (Sym N A)) (v : V) → are_below S (suc n) symbols ≡ true → have_specimens G S symbols ≡ true → IsAnswered G Leads symbols v
-one_rank G S Leads i n lower [] v h k = ([], v, (zero, (refl, refl)), i.nothing v)
+    → ((symbols : List (Sym N A)) (v : V) → are_below S n symbols ≡ true → have_specimens G S symbols ≡ true → IsAnswered G S Leads symbols v)
+    → (symbols : List (Sym N A)) (v : V) → are_below S (suc n) symbols ≡ true → have_specimens G S symbols ≡ true → IsAnswered G S Leads symbols v
+one_rank G S Leads i n lower [] v h k = ([], v, (zero, (refl, refl)), i.nothing v, tt)
 one_rank {N} {A} {T} {V} G S Leads i n lower (Tok t ∷ symbols) v h k =
-    let a : IsAnswered G Leads symbols (G.take_in (S.specimen t) v) = one_rank G S Leads i n lower symbols (G.take_in (S.specimen t) v) h (and_right _ _ k) in
-    (S.specimen t ∷ a.0, a.1, (suc a.2.0, (S.specimen t, a.0, refl, eqb-true _ _ (and_left _ _ k), a.2.1)), i.token t symbols v a.1 a.3)
+    let a : IsAnswered G S Leads symbols (G.take_in (S.specimen t) v) = one_rank G S Leads i n lower symbols (G.take_in (S.specimen t) v) h (and_right _ _ k) in
+    (S.specimen t ∷ a.0, a.1, (suc a.2.0, (S.specimen t, a.0, refl, eqb-true _ _ (and_left _ _ k), a.2.1)), i.token t symbols v a.1 (eqb-true _ _ (and_left _ _ k)) a.3, ((t, refl), a.4))
 one_rank {N} {A} {T} {V} G S Leads i n lower (Non x ∷ symbols) v h k =
     let e : HasWay G S Leads x v = i.rows x v in
-    let a : IsAnswered G Leads e.0.symbols v = lower e.0.symbols v (below_less S (S.rank x) n e.0.symbols (lower_rank (S.rank x) n (ltb-true _ _ (and_left _ _ h))) e.3) e.4 in
-    let b : IsAnswered G Leads symbols a.1 = one_rank G S Leads i n lower symbols a.1 (and_right _ _ h) k in
+    let a : IsAnswered G S Leads e.0.symbols v = lower e.0.symbols v (below_less S (S.rank x) n e.0.symbols (lower_rank (S.rank x) n (ltb-true _ _ (and_left _ _ h))) e.3) e.4 in
+    let b : IsAnswered G S Leads symbols a.1 = one_rank G S Leads i n lower symbols a.1 (and_right _ _ h) k in
     let y : Yields G (e.0.symbols ++ symbols) v (a.0 ++ b.0) b.1 = joined G a.2.0 e.0.symbols symbols v a.1 b.1 a.0 b.0 a.2.1 b.2 in
-    (a.0 ++ b.0, b.1, (suc y.0, (e.0, e.1, e.2, y.1)), e.5 symbols a.1 b.1 a.3 b.3)
+    (a.0 ++ b.0, b.1, (suc y.0, (e.0, e.1, e.2, y.1)), e.5 symbols a.1 b.1 a.3 b.3, specimens_both S a.0 b.0 a.4 b.4)
 one_rank {N} {A} {T} {V} G S Leads i n lower (Do act ∷ symbols) v h k =
-    let a : IsAnswered G Leads symbols (G.act act v) = one_rank G S Leads i n lower symbols (G.act act v) h k in
-    (a.0, a.1, (suc a.2.0, a.2.1), i.action act symbols v a.1 a.3)
+    let a : IsAnswered G S Leads symbols (G.act act v) = one_rank G S Leads i n lower symbols (G.act act v) h k in
+    (a.0, a.1, (suc a.2.0, a.2.1), i.action act symbols v a.1 a.3, a.4)
 
 -- no symbol has a rank below 0
 unranked : {N A T V : Type 0} (G : Grammar N A T V) (S : Sets N T) (Leads : List (Sym N A) → V → V → Type 0) → IsLed G S Leads
-    → (symbols : List (Sym N A)) (v : V) → are_below S zero symbols ≡ true → have_specimens G S symbols ≡ true → IsAnswered G Leads symbols v
-unranked G S Leads i [] v h k = ([], v, (zero, (refl, refl)), i.nothing v)
+    → (symbols : List (Sym N A)) (v : V) → are_below S zero symbols ≡ true → have_specimens G S symbols ≡ true → IsAnswered G S Leads symbols v
+unranked G S Leads i [] v h k = ([], v, (zero, (refl, refl)), i.nothing v, tt)
 unranked {N} {A} {T} {V} G S Leads i (Tok t ∷ symbols) v h k =
-    let a : IsAnswered G Leads symbols (G.take_in (S.specimen t) v) = unranked G S Leads i symbols (G.take_in (S.specimen t) v) h (and_right _ _ k) in
-    (S.specimen t ∷ a.0, a.1, (suc a.2.0, (S.specimen t, a.0, refl, eqb-true _ _ (and_left _ _ k), a.2.1)), i.token t symbols v a.1 a.3)
+    let a : IsAnswered G S Leads symbols (G.take_in (S.specimen t) v) = unranked G S Leads i symbols (G.take_in (S.specimen t) v) h (and_right _ _ k) in
+    (S.specimen t ∷ a.0, a.1, (suc a.2.0, (S.specimen t, a.0, refl, eqb-true _ _ (and_left _ _ k), a.2.1)), i.token t symbols v a.1 (eqb-true _ _ (and_left _ _ k)) a.3, ((t, refl), a.4))
 unranked G S Leads i (Non x ∷ symbols) v h k = let p : S.rank x < 0 = ltb-true _ _ (and_left _ _ h) in absurd (omega arith)
 unranked {N} {A} {T} {V} G S Leads i (Do act ∷ symbols) v h k =
-    let a : IsAnswered G Leads symbols (G.act act v) = unranked G S Leads i symbols (G.act act v) h k in
-    (a.0, a.1, (suc a.2.0, a.2.1), i.action act symbols v a.1 a.3)
+    let a : IsAnswered G S Leads symbols (G.act act v) = unranked G S Leads i symbols (G.act act v) h k in
+    (a.0, a.1, (suc a.2.0, a.2.1), i.action act symbols v a.1 a.3, a.4)
 
 below_answered : {N A T V : Type 0} (G : Grammar N A T V) (S : Sets N T) (Leads : List (Sym N A) → V → V → Type 0) → IsLed G S Leads
-    → (n : ℕ) (symbols : List (Sym N A)) (v : V) → are_below S n symbols ≡ true → have_specimens G S symbols ≡ true → IsAnswered G Leads symbols v
+    → (n : ℕ) (symbols : List (Sym N A)) (v : V) → are_below S n symbols ≡ true → have_specimens G S symbols ≡ true → IsAnswered G S Leads symbols v
 below_answered G S Leads i zero symbols v h k = unranked G S Leads i symbols v h k
 below_answered G S Leads i (suc n) symbols v h k = one_rank G S Leads i n (below_answered G S Leads i n) symbols v h k
 
@@ -111,14 +120,14 @@ some_bound {N} {A} {T} S (Non x ∷ symbols) =
 some_bound S (Do a ∷ symbols) = some_bound S symbols
 
 pub answered : {N A T V : Type 0} (G : Grammar N A T V) (S : Sets N T) (Leads : List (Sym N A) → V → V → Type 0) → IsLed G S Leads
-    → (symbols : List (Sym N A)) (v : V) → have_specimens G S symbols ≡ true → IsAnswered G Leads symbols v
+    → (symbols : List (Sym N A)) (v : V) → have_specimens G S symbols ≡ true → IsAnswered G S Leads symbols v
 answered G S Leads i symbols v k = let b : (n : ℕ) × (are_below S n symbols ≡ true) = some_bound S symbols in below_answered G S Leads i b.0 symbols v b.1 k
 
 -- a row without a guard, whatever it leads to
 anywhere : {N A T V : Type 0} (G : Grammar N A T V) (S : Sets N T) → ((x : N) → is_completable G S x ≡ true) → IsLed G S (λ symbols v w. Unit {0})
 anywhere {N} {A} {T} {V} G S c = record {
   nothing = λ v. tt;
-  token = λ k symbols v w h. tt;
+  token = λ k symbols v w e h. tt;
   action = λ a symbols v w h. tt;
   rows = λ x v.
       let e : HasExit G S (S.rank x) (G.rows x) = exit_row G S (S.rank x) (G.rows x) (and_left _ _ (c x)) (and_right _ _ (c x)) in
@@ -126,7 +135,7 @@ anywhere {N} {A} {T} {V} G S c = record {
 }
 
 pub completable : {N A T V : Type 0} → Completable N A T V
-completable G S c symbols v k = let a : IsAnswered G (λ symbols v w. Unit {0}) symbols v = answered G S _ (anywhere G S c) symbols v k in (a.0, a.1, a.2)
+completable G S c symbols v k = let a : IsAnswered G S (λ symbols v w. Unit {0}) symbols v = answered G S _ (anywhere G S c) symbols v k in (a.0, a.1, a.2)
 
 -- the row's tokens have specimens too
 pub row_has_specimens : {N A T V : Type 0} (G : Grammar N A T V) (S : Sets N T) (rows : List (Row N A V)) (r : Row N A V)

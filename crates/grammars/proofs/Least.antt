@@ -46,7 +46,7 @@ leads_to_least : {N A T V : Type 0} (G : Grammar N A T V) (S : Sets N T) (low : 
     → IsLed G S (λ symbols v w. w ≡ least G low lowest symbols v)
 leads_to_least {N} {A} {T} {V} G S low lowest i = record {
   nothing = λ v. refl;
-  token = λ k symbols v w h. h ∙ ap (least G low lowest symbols) (i.token k v);
+  token = λ k symbols v w e h. h ∙ ap (least G low lowest symbols) (i.token k v);
   action = λ a symbols v w h. h;
   rows = λ x v.
       let e : IsMet G S low lowest x v = i.rows x v in
@@ -55,5 +55,5 @@ leads_to_least {N} {A} {T} {V} G S low lowest i = record {
 
 pub reached : {N A T V : Type 0} → Reached N A T V
 reached {N} {A} {T} {V} G S low lowest i symbols v k =
-    let a : IsAnswered G (λ l u w. w ≡ least G low lowest l u) symbols v = answered G S _ (leads_to_least G S low lowest i) symbols v k in
+    let a : IsAnswered G S (λ l u w. w ≡ least G low lowest l u) symbols v = answered G S _ (leads_to_least G S low lowest i) symbols v k in
     (a.0, subst (λ (w : V). Yields G symbols v a.0 w) a.3 a.2)

@@ -1,23 +1,17 @@
 -- The first of some places and others is the earlier of both firsts.
-use Rattle.std.proofs.Common.{◌≡◌, Bool, true, false, List, [], ◌∷◌, ◌++◌, refl, sym, ap, ◌∙◌, Option, Some, None, if◌then◌else◌, arith}
+use Rattle.std.proofs.Common.{◌≡◌, Bool, true, false, List, [], ◌∷◌, ◌++◌, refl, sym, ap, ◌∙◌, Option, Some, None, if◌then◌else◌}
 use Rattle.py_tokens.specs.Token.{Place}
 use Rattle.py_tokens.specs.Places.{is_before}
+use Rattle.py_tokens.proofs.PlacesOrdered.{before_through, before_neither}
 use Rattle.py_meaning.specs.Built.{earlier, first_place}
 use Rattle.py_built.specs.First.{earliest}
 
--- places are in an order
-passes_on : (p q r : Place) → is_before r q ≡ true → is_before q p ≡ true → is_before r p ≡ true
-passes_on p q r h k = grind arith
-
-passes_back : (p q r : Place) → is_before r q ≡ false → is_before q p ≡ false → is_before r p ≡ false
-passes_back p q r h k = grind arith
-
 earlier_both : (p q r : Place) (b c : Bool) → is_before r q ≡ b → is_before q p ≡ c
     → (if is_before (if b then r else q) p then (if b then r else q) else p) ≡ (if is_before r (if c then q else p) then r else (if c then q else p))
-earlier_both p q r true true h k = rw (h, passes_on p q r h k) refl
+earlier_both p q r true true h k = rw (h, before_through p q r h k) refl
 earlier_both p q r true false h k = refl
 earlier_both p q r false true h k = rw (h, k) refl
-earlier_both p q r false false h k = rw (k, passes_back p q r h k) refl
+earlier_both p q r false false h k = rw (k, before_neither p q r h k) refl
 
 earlier_joined : (p : Place) (o o2 : Option Place) → earlier p (earliest o o2) ≡ earlier (earlier p o) o2
 earlier_joined p None o2 = refl

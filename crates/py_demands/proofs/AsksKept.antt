@@ -7,7 +7,7 @@ use Rattle.py_nesting.specs.Walk.{Demand, Nothing, Whole, Inside, Assigned, come
 use Rattle.py_demands.specs.Roles.{Change, Below, Apart, Loose, Turned, Role, Lost, Head, Through, changed, all_changed, at_token, asked_by, roles, asked_before}
 use Rattle.py_demands.specs.Least.{Ask, NoNode, AtLeast, WithinAtLeast, OpenAtLeast, ask_changed, ask_all_changed, ask_by, ask_head, before_action, is_below, asks_no_more, ask_no_more}
 use Rattle.py_demands.specs.AtMost.{AtMost, AreAtMost}
-use Rattle.py_fronts.proofs.TreesBegin.{some_is}
+use Rattle.std.proofs.lemmas.Option.{same_Some}
 
 change_kept : (c : Change) (q : Ask) (d : Demand) → AtMost q d → AtMost (ask_changed c q) (changed c d)
 change_kept (Below l) q Nothing h = tt
@@ -77,12 +77,12 @@ action_kept a qs bs ds e h = go (drops_or_leaves a) qs ds e h
         × ((q : Ask) (qs : List Ask) → before_action a (q ∷ qs) ≡ Some (map (ask_by q) (roles a) ++ qs)) × (before_action a [] ≡ None))
         → (qs : List Ask) (ds : List Demand) → before_action a qs ≡ Some bs → AreAtMost qs ds → AreAtMost bs (asked_before a ds)
     go (inl is) qs ds e h =
-        let same : NoNode ∷ qs ≡ bs = some_is (NoNode ∷ qs) bs (sym (ap (λ (b : Action). before_action b qs) is) ∙ e) in
+        let same : NoNode ∷ qs ≡ bs = same_Some (NoNode ∷ qs) bs (sym (ap (λ (b : Action). before_action b qs) is) ∙ e) in
         subst (λ (x : Action). AreAtMost bs (asked_before x ds)) (sym is) (subst (λ (x : List Ask). AreAtMost x (Nothing ∷ ds)) same (tt, h))
     go (inr (one, two, three)) [] ds e h = let none : None ≡ Some bs = sym three ∙ e in absurd (cc)
     go (inr (one, two, three)) (q ∷ qs) [] e h = absurd h
     go (inr (one, two, three)) (q ∷ qs) (d ∷ ds) e h =
-        let same : map (ask_by q) (roles a) ++ qs ≡ bs = some_is _ bs (sym (two q qs) ∙ e) in
+        let same : map (ask_by q) (roles a) ++ qs ≡ bs = same_Some _ bs (sym (two q qs) ∙ e) in
         subst (λ (x : List Demand). AreAtMost bs x) (sym (one d ds)) (subst (λ (x : List Ask). AreAtMost x (map (asked_by d) (roles a) ++ ds)) same (roles_kept (roles a) q d qs ds h.0 h.1))
 
 below_so : (m n : ℕ) → is_below m n ≡ true → m ≤ n

@@ -23,7 +23,7 @@ use Rattle.py_fronts.specs.Fit.{Fit}
 use Rattle.py_fronts.specs.AtFront.{asked, nodes_of}
 use Rattle.py_fronts.proofs.TableFits.{row_fits}
 use Rattle.py_fronts.proofs.DerivedFit.{token_fits_so}
-use Rattle.py_fronts.proofs.FrontsReached.{built_more}
+use Rattle.py_nesting.proofs.EventsAdded.{built_more}
 use Rattle.py_fronts.proofs.DepthsGo.{walk_both}
 use Rattle.py_demands.specs.Roles.{asked_before}
 use Rattle.py_demands.specs.Asks.{of_outlines, entry_depth, tokens_depth, place_of, avoids}
@@ -32,7 +32,7 @@ use Rattle.py_demands.specs.AtMost.{AreAtMost}
 use Rattle.py_demands.specs.Bound.{standing}
 use Rattle.py_demands.proofs.EffectsTied.{tied}
 use Rattle.py_demands.proofs.AsksKept.{action_kept, no_more_all}
-use Rattle.py_fronts.proofs.TreesBegin.{some_is}
+use Rattle.std.proofs.lemmas.Option.{same_Some}
 use Rattle.py_demands.proofs.LowRows.{low_row, least_frame, least_joined, askable_joined}
 
 pub record Bounds (symbols : List Symbol) (v w : Parts) (ts : List Token) (ds : List Demand) : Type 0 where
@@ -87,7 +87,7 @@ by_token t k symbols v w ts ds b = go b.demands b.many b.stand b.stand_so b.no_l
         rest_of : (qs bs : List Ask) → AreAtMost qs ds → are_askable symbols (Some qs) ≡ true → (o : Option (List Ask)) → least symbols (Some qs) ≡ o → before (Tok k) o ≡ Some bs → AreAtMost bs these
         rest_of qs bs h a None o e = absurd (cc)
         rest_of qs bs h a (Some []) o e = absurd (cc)
-        rest_of qs bs h a (Some (r ∷ rs)) o e = subst (λ (l : List Ask). AreAtMost l these) (some_is rs bs e) (no_less qs (r ∷ rs) h a o).1
+        rest_of qs bs h a (Some (r ∷ rs)) o e = subst (λ (l : List Ask). AreAtMost l these) (same_Some rs bs e) (no_less qs (r ∷ rs) h a o).1
 
 -- behind an action nodes stand no deeper than what it asks of the parts before it tells
 pub stands_behind : (at : Place → Bool) (a : Action) (v : Parts) (new : List Entry) (more events : List Event) (ds : List Demand) → Begin v → effect_of a (entries_of v) ≡ Some (effect new more)
@@ -149,7 +149,7 @@ by_row x r symbols v w ts ds i b =
         let l = low_row x q r i m in
         let joined : least (r.symbols ++ symbols) (Some qs) ≡ Some (l.asks ++ cs) = least_joined r.symbols symbols (Some qs) ∙ ap (least r.symbols) o ∙ least_frame r.symbols (q ∷ []) l.asks cs l.least_is in
         let askable : are_askable (r.symbols ++ symbols) (Some qs) ≡ true = askable_joined r.symbols symbols q cs (Some qs) o l.askable k in
-        subst (λ (x : List Ask). AreAtMost x b.demands) (some_is (map (ask_least q) (low x) ++ cs) bs f)
+        subst (λ (x : List Ask). AreAtMost x b.demands) (same_Some (map (ask_least q) (low x) ++ cs) bs f)
         (no_more_all (map (ask_least q) (low x)) l.asks cs b.demands l.no_more_is (b.no_less qs (l.asks ++ cs) h askable joined))
 
 pub bounded : (n : ℕ) (symbols : List Symbol) (v w : Parts) (ts : List Token) (events : List Event) (ds : List Demand) → Fit symbols (entries_of v) → built events ≡ Some (outlines_of v) → Begin v
@@ -160,7 +160,7 @@ bounded zero [] v w ts events ds f b g d m =
       many = m ∙ ap (λ (u : Parts). length (entries_of u)) (sym d.1);
       stand = λ at. (let e : standing at v ds ≡ standing at w ds = ap (λ (u : Parts). standing at u ds) d.1 in omega arith);
       stand_so = λ at h. (let e : standing at v ds ≡ standing at w ds = ap (λ (u : Parts). standing at u ds) d.1 in omega arith);
-      no_less = λ qs bs h k e. subst (λ (l : List Ask). AreAtMost l ds) (some_is qs bs e) h;
+      no_less = λ qs bs h k e. subst (λ (l : List Ask). AreAtMost l ds) (same_Some qs bs e) h;
     }
 bounded zero (s ∷ symbols) v w ts events ds f b g d m = absurd d
 bounded (suc n) [] v w ts events ds f b g d m = absurd d

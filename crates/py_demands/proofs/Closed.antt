@@ -1,11 +1,10 @@
 -- Symbols can be closed by tokens at one place, and then ask just what the rows that close them ask.
-use Rattle.std.proofs.Common.{◌≡◌, ℕ, zero, suc, ◌+◌, ◌<◌, ◌≤◌, Bool, true, false, not, List, [], ◌∷◌, ◌++◌, length, Option, Some, None, refl, sym, ap, ◌∙◌, subst, arith, eqb-true, ltb-true, lt-ltb}
+use Rattle.std.proofs.Common.{nat_lt, ◌==◌, ◌≡◌, ℕ, ◌+◌, ◌≤◌, Bool, true, false, not, List, [], ◌∷◌, ◌++◌, length, Option, Some, None, refl, sym, ap, ◌∙◌, subst, arith}
 use Rattle.grammars.specs.Grammar.{Tok, Non, Do}
 use Rattle.grammars.specs.Derivation.{Yields}
-use Rattle.grammars.specs.Sets.{are_below, have_specimens}
+use Rattle.grammars.specs.Sets.{Sets, are_below, have_specimens}
 use Rattle.grammars.proofs.Bools.{and_left, and_right, both}
-use Rattle.grammars.proofs.Completions.{joined}
-use Rattle.grammars.proofs.Steps.{by_token, by_action, by_row}
+use Rattle.grammars.proofs.Completions.{AreSpecimens, IsLed, IsAnswered, answered}
 use Rattle.py_tokens.specs.Token.{Place}
 use Rattle.py_syntax.specs.Token.{Token, At}
 use Rattle.py_syntax.specs.Kinds.{kind_at, kind_of}
@@ -21,14 +20,14 @@ use Rattle.py_fronts.specs.Begins.{Begin}
 use Rattle.py_fronts.specs.Fit.{Fit}
 use Rattle.py_fronts.proofs.TableFits.{row_fits}
 use Rattle.py_fronts.proofs.DerivedFit.{token_fits_so}
-use Rattle.py_fronts.proofs.FrontsReached.{built_more}
+use Rattle.py_nesting.proofs.EventsAdded.{built_more}
 use Rattle.py_fronts.proofs.PartsBegin.{parts_begin}
 use Rattle.py_demands.specs.Roles.{asked_before}
-use Rattle.py_demands.specs.Asks.{avoids}
+use Rattle.py_demands.specs.Asks.{place_of, avoids}
 use Rattle.py_demands.specs.Closing.{closing, exactly_by, exactly_before, exactly}
 use Rattle.py_demands.specs.Bound.{standing}
 use Rattle.py_demands.proofs.EffectsTied.{tied}
-use Rattle.py_fronts.proofs.TreesBegin.{some_is}
+use Rattle.std.proofs.lemmas.Option.{same_Some}
 use Rattle.py_demands.proofs.Bounded.{stands_before, stands_behind, token_avoided}
 use Rattle.py_demands.proofs.RowsClose.{is_row, closes, closed_below, closed_by_specimens}
 
@@ -52,12 +51,12 @@ pub record Closed (p : Place) (symbols : List Symbol) (v : Parts) : Type 0 where
   pub leads : Leads p symbols v left
 
 exact_is : (a : Action) (ds us : List Demand) → exactly_by a ds ≡ Some us → us ≡ asked_before a ds
-exact_is Drop ds us e = sym (some_is (Nothing ∷ ds) us e)
+exact_is Drop ds us e = sym (same_Some (Nothing ∷ ds) us e)
 exact_is a [] us e = absurd (cc)
-exact_is a (d ∷ ds) us e = sym (some_is _ us e)
+exact_is a (d ∷ ds) us e = sym (same_Some _ us e)
 
 nothing_leads : (p : Place) (v : Parts) → Leads p [] v v
-nothing_leads p v more events f b g = (f, (events, b), g, λ ds us m e. let same : ds ≡ us = some_is ds us e in subst (λ (x : List Demand). (length x ≡ length (entries_of v)) × ((at : Place → Bool) → Same at p v ds v x)) same (m, λ at. ((omega arith), λ h. omega arith)))
+nothing_leads p v more events f b g = (f, (events, b), g, λ ds us m e. let same : ds ≡ us = same_Some ds us e in subst (λ (x : List Demand). (length x ≡ length (entries_of v)) × ((at : Place → Bool) → Same at p v ds v x)) same (m, λ at. ((omega arith), λ h. omega arith)))
 
 token_leads : (p : Place) (k : ℕ) (symbols : List Symbol) (v w : Parts) → kind_of (At p (kind_at k)) ≡ k → Leads p symbols (PToken (At p (kind_at k)) ∷ v) w → Leads p (Tok k ∷ symbols) v w
 token_leads p k symbols v w kind l more events f b g =
@@ -72,7 +71,7 @@ token_leads p k symbols v w kind l more events f b g =
     before ds us None o e r m = absurd (cc)
     before ds us (Some []) o e r m = absurd (cc)
     before ds us (Some (d ∷ these)) o e r m =
-        let same : these ≡ us = some_is these us e in
+        let same : these ≡ us = same_Some these us e in
         let s = r (d ∷ these) m o in
         subst (λ (x : List Demand). (length x ≡ length (entries_of v)) × ((at : Place → Bool) → Same at p w ds v x)) same
         ((let n = s.0 in omega arith), λ at. ((let n = (s.1 at).0 in omega arith), λ h. (let n = (s.1 at).1 h in let none = token_avoided at d (At p (kind_at k)) h in omega arith)))
@@ -121,81 +120,36 @@ rows_lead p x symbols v u w l k more events f b g =
         let front = r (d ∷ these) us behind.0 (closes x d these ∙ e) in
         (front.0, λ at. ((let n = (behind.1 at).0 in let i = (front.1 at).0 in omega arith), λ h. (let n = (behind.1 at).1 h in let i = (front.1 at).1 h in omega arith)))
 
-below_less : (m n : ℕ) (symbols : List Symbol) → m ≤ n → are_below sets m symbols ≡ true → are_below sets n symbols ≡ true
-below_less m n [] l h = refl
-below_less m n (Tok k ∷ symbols) l h = below_less m n symbols l h
-below_less m n (Non x ∷ symbols) l h = both _ _ (let p : sets.rank x < m = ltb-true _ _ (and_left _ _ h) in lt-ltb _ _ (omega arith)) (below_less m n symbols l (and_right _ _ h))
-below_less m n (Do a ∷ symbols) l h = below_less m n symbols l h
+-- tokens at p
+abbrev sets_at : Place → Sets Nonterminal Token
+sets_at p = record { nullable = sets.nullable; first = sets.first; follow = sets.follow; rank = sets.rank; specimen = λ k. At p (kind_at k) }
 
-avoids_both : (at : Place → Bool) (ts us : List Token) → avoids at ts ≡ true → avoids at us ≡ true → avoids at (ts ++ us) ≡ true
-avoids_both at [] us h k = k
-avoids_both at (t ∷ ts) us h k = both _ _ (and_left _ _ h) (avoids_both at ts us (and_right _ _ h) k)
+-- which place it is makes no difference
+anywhere : (p : Place) (symbols : List Symbol) → have_specimens table sets symbols ≡ true → have_specimens table (sets_at p) symbols ≡ true
+anywhere p [] h = refl
+anywhere p (Tok k ∷ symbols) h = both (kind_of (At p (kind_at k)) == k) _ (and_left _ _ h) (anywhere p symbols (and_right _ _ h))
+anywhere p (Non x ∷ symbols) h = anywhere p symbols h
+anywhere p (Do a ∷ symbols) h = anywhere p symbols h
 
-not_there : (b : Bool) → b ≡ false → not b ≡ true
-not_there false h = refl
-not_there true h = absurd (cc)
+below_anywhere : (p : Place) (n : ℕ) (symbols : List Symbol) → are_below sets n symbols ≡ true → are_below (sets_at p) n symbols ≡ true
+below_anywhere p n [] h = refl
+below_anywhere p n (Tok k ∷ symbols) h = below_anywhere p n symbols h
+below_anywhere p n (Non x ∷ symbols) h = both (nat_lt (sets.rank x) n) _ (and_left _ _ h) (below_anywhere p n symbols (and_right _ _ h))
+below_anywhere p n (Do a ∷ symbols) h = below_anywhere p n symbols h
 
--- if all symbols of ranks below n are closed, so are those of ranks up to n
-one_rank : (p : Place) (n : ℕ) → ((symbols : List Symbol) (v : Parts) → are_below sets n symbols ≡ true → have_specimens table sets symbols ≡ true → Closed p symbols v)
-    → (symbols : List Symbol) (v : Parts) → are_below sets (suc n) symbols ≡ true → have_specimens table sets symbols ≡ true → Closed p symbols v
-one_rank p n lower [] v h k = record { tokens = []; left = v; derived = (zero, (refl, refl)); placed = λ at q. refl; leads = nothing_leads p v }
-one_rank p n lower (Tok m ∷ symbols) v h k =
-    let t : Token = At p (kind_at m) in
-    let kind : kind_of t ≡ m = eqb-true (kind_of t) m (and_left _ _ k) in
-    let a = one_rank p n lower symbols (PToken t ∷ v) h (and_right _ _ k) in
-    record {
-      tokens = t ∷ a.tokens;
-      left = a.left;
-      derived = subst (λ (i : ℕ). Yields table (Tok i ∷ symbols) v (t ∷ a.tokens) a.left) kind (by_token table t symbols v a.tokens a.left a.derived);
-      placed = λ at q. both (not (at p)) (avoids at a.tokens) (not_there (at p) q) (a.placed at q);
-      leads = token_leads p m symbols v a.left kind a.leads;
-    }
-one_rank p n lower (Non x ∷ symbols) v h k =
-    let rank : sets.rank x < suc n = ltb-true _ _ (and_left _ _ h) in
-    let a = lower (closing x) v (below_less (sets.rank x) n (closing x) (omega arith) (closed_below x)) (closed_by_specimens x) in
-    let b = one_rank p n lower symbols a.left (and_right _ _ h) k in
-    record {
-      tokens = a.tokens ++ b.tokens;
-      left = b.left;
-      derived = by_row table x (row (closing x)) symbols v (a.tokens ++ b.tokens) b.left (is_row x) refl (joined table a.derived.0 (closing x) symbols v a.left b.left a.tokens b.tokens a.derived.1 b.derived);
-      placed = λ at q. avoids_both at a.tokens b.tokens (a.placed at q) (b.placed at q);
-      leads = rows_lead p x symbols v a.left b.left a.leads b.leads;
-    }
-one_rank p n lower (Do a ∷ symbols) v h k =
-    let c = one_rank p n lower symbols (act a v) h k in
-    record { tokens = c.tokens; left = c.left; derived = by_action table a symbols v c.tokens c.left c.derived; placed = c.placed; leads = action_leads p a symbols v c.left c.leads }
+led : (p : Place) → IsLed table (sets_at p) (Leads p)
+led p = record {
+  nothing = nothing_leads p;
+  token = λ k symbols v w kind l. token_leads p k symbols v w kind l;
+  action = action_leads p;
+  rows = λ x v. (row (closing x), is_row x, refl, below_anywhere p (sets.rank x) (closing x) (closed_below x), anywhere p (closing x) (closed_by_specimens x), λ symbols u w l k. rows_lead p x symbols v u w l k);
+}
 
--- no symbol has a rank below 0
-unranked : (p : Place) (symbols : List Symbol) (v : Parts) → are_below sets zero symbols ≡ true → have_specimens table sets symbols ≡ true → Closed p symbols v
-unranked p [] v h k = record { tokens = []; left = v; derived = (zero, (refl, refl)); placed = λ at q. refl; leads = nothing_leads p v }
-unranked p (Tok m ∷ symbols) v h k =
-    let t : Token = At p (kind_at m) in
-    let kind : kind_of t ≡ m = eqb-true (kind_of t) m (and_left _ _ k) in
-    let a = unranked p symbols (PToken t ∷ v) h (and_right _ _ k) in
-    record {
-      tokens = t ∷ a.tokens;
-      left = a.left;
-      derived = subst (λ (i : ℕ). Yields table (Tok i ∷ symbols) v (t ∷ a.tokens) a.left) kind (by_token table t symbols v a.tokens a.left a.derived);
-      placed = λ at q. both (not (at p)) (avoids at a.tokens) (not_there (at p) q) (a.placed at q);
-      leads = token_leads p m symbols v a.left kind a.leads;
-    }
-unranked p (Non x ∷ symbols) v h k = let q : sets.rank x < 0 = ltb-true _ _ (and_left _ _ h) in absurd (omega arith)
-unranked p (Do a ∷ symbols) v h k =
-    let c = unranked p symbols (act a v) h k in
-    record { tokens = c.tokens; left = c.left; derived = by_action table a symbols v c.tokens c.left c.derived; placed = c.placed; leads = action_leads p a symbols v c.left c.leads }
-
-below_closed : (p : Place) (n : ℕ) (symbols : List Symbol) (v : Parts) → are_below sets n symbols ≡ true → have_specimens table sets symbols ≡ true → Closed p symbols v
-below_closed p zero symbols v h k = unranked p symbols v h k
-below_closed p (suc n) symbols v h k = one_rank p n (below_closed p n) symbols v h k
-
--- above all their ranks
-some_bound : (symbols : List Symbol) → (n : ℕ) × (are_below sets n symbols ≡ true)
-some_bound [] = (zero, refl)
-some_bound (Tok k ∷ symbols) = some_bound symbols
-some_bound (Non x ∷ symbols) =
-    let b = some_bound symbols in
-    let top : ℕ = suc (sets.rank x) + b.0 in (top, both _ _ (lt-ltb _ _ (omega arith)) (below_less b.0 top symbols (omega arith) b.1))
-some_bound (Do a ∷ symbols) = some_bound symbols
+avoided : (at : Place → Bool) (p : Place) (ts : List Token) → at p ≡ false → AreSpecimens (sets_at p) ts → avoids at ts ≡ true
+avoided at p [] h s = refl
+avoided at p (t ∷ ts) h s = both (not (at (place_of t))) _ (ap (λ (u : Token). not (at (place_of u))) s.0.1 ∙ ap not h) (avoided at p ts h s.1)
 
 pub closed : (p : Place) (symbols : List Symbol) (v : Parts) → have_specimens table sets symbols ≡ true → Closed p symbols v
-closed p symbols v k = let b = some_bound symbols in below_closed p b.0 symbols v b.1 k
+closed p symbols v k =
+    let a : IsAnswered table (sets_at p) (Leads p) symbols v = answered table (sets_at p) (Leads p) (led p) symbols v (anywhere p symbols k) in
+    record { tokens = a.0; left = a.1; derived = a.2; placed = λ at h. avoided at p a.0 h a.4; leads = a.3 }

@@ -10,6 +10,7 @@ use Rattle.py_nesting.specs.TreeOutlines.{leaf}
 use Rattle.py_nesting.specs.Shapes.{TokenShape, ExprShape, SignShape, LoopShape, LoopTargetShape, TargetsShape, ClassShape, StmtShape, BodyShape, nowhere, Entry, entry}
 use Rattle.py_nesting.specs.Effects.{Effect, effect, effect_of, effect_add_and, effect_add_argument, effect_add_base, effect_add_condition, effect_add_default, effect_add_global, effect_add_imported, effect_add_imported_as, effect_add_item, effect_add_keyword, effect_add_link, effect_add_loop, effect_add_loop_name, effect_add_or, effect_add_pair, effect_add_parameter, effect_add_stmt, effect_add_targets, effect_add_upper, effect_begin_body, effect_begin_call, effect_begin_class, effect_begin_comprehension, effect_begin_def, effect_begin_dict, effect_begin_from, effect_begin_global, effect_begin_loop, effect_begin_try, effect_bracket, effect_catch, effect_catch_all, effect_catch_as, effect_constant, effect_drop, effect_end_class, effect_end_def, effect_infix, effect_make_assert_message, effect_make_assign, effect_make_attribute, effect_make_augmented, effect_make_class_name, effect_make_class_within, effect_make_compare, effect_make_conditional, effect_make_delete, effect_make_elif, effect_make_else, effect_make_empty_dict, effect_make_empty_list, effect_make_empty_tuple, effect_make_expr_stmt, effect_make_for, effect_make_if, effect_make_leaf, effect_make_list, effect_make_long_sign, effect_make_loop_name, effect_make_loop_names, effect_make_loop_parenthesis, effect_make_set, effect_make_set_of_one, effect_make_sign, effect_make_slice, effect_make_slice_from, effect_make_subscript, effect_make_targets, effect_make_tuple, effect_make_while, effect_prefix, effect_with_value, effect_word}
 use Rattle.py_nesting.specs.Walk.{Demand, raise, demanded, within, comes, met, met_depth}
+use Rattle.py_nesting.proofs.EffectsKept.{no_effect}
 use Rattle.py_fronts.specs.AtFront.{asked, nodes_of}
 use Rattle.py_demands.specs.Roles.{at_token, asked_before}
 use Rattle.py_demands.specs.Asks.{of_outlines, tokens_depth, starts_depth}
@@ -34,9 +35,6 @@ found a es new events r h t = let is : effect new events ≡ r = cc in subst (Ti
 found_if : (b : Bool) (a : Action) (es new : List Entry) (events : List Event) (r : Effect) → (if b then Some (effect new events) else None) ≡ Some r → Tied a es (effect new events) → Tied a es r
 found_if true a es new events r h t = found a es new events r h t
 found_if false a es new events r h t = absurd (cc)
-
-pub no_effect : {A : Type 0} {r : Effect} → None ≡ Some r → A
-no_effect e = absurd (cc)
 
 token_met : (at : Place → Bool) (p : Place) (o : Option ℕ) → demanded at (at_token o) (leaf p) ≡ met_depth at (met p o [])
 token_met at p None = refl

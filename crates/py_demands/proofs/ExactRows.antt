@@ -7,7 +7,7 @@ use Rattle.py_syntax.specs.Table.{Symbol, Nonterminal, Module, rows}
 use Rattle.py_nesting.specs.Walk.{Demand, Nothing}
 use Rattle.py_demands.specs.Roles.{asked_by, roles}
 use Rattle.py_demands.specs.Closing.{asks_exactly, exactly_by, exactly_symbol, exactly_before, exactly}
-use Rattle.py_fronts.proofs.TreesBegin.{some_is}
+use Rattle.std.proofs.lemmas.Option.{same_Some}
 
 abbrev is_there : Option (List Demand) → Bool
 is_there None = false
@@ -31,19 +31,19 @@ there_is None h = absurd (cc)
 there_is (Some ds) h = (ds, refl)
 
 action_frame : (a : Action) (ds us cs : List Demand) → exactly_by a ds ≡ Some us → exactly_by a (ds ++ cs) ≡ Some (us ++ cs)
-action_frame Drop ds us cs e = ap (λ (l : List Demand). Some (l ++ cs)) (some_is (Nothing ∷ ds) us e)
+action_frame Drop ds us cs e = ap (λ (l : List Demand). Some (l ++ cs)) (same_Some (Nothing ∷ ds) us e)
 action_frame a [] us cs e = absurd (cc)
-action_frame a (d ∷ ds) us cs e = ap Some (sym (append_assoc (map (asked_by d) (roles a)) ds cs)) ∙ ap (λ (l : List Demand). Some (l ++ cs)) (some_is _ us e)
+action_frame a (d ∷ ds) us cs e = ap Some (sym (append_assoc (map (asked_by d) (roles a)) ds cs)) ∙ ap (λ (l : List Demand). Some (l ++ cs)) (same_Some _ us e)
 
 symbol_frame : (s : Symbol) (ds us cs : List Demand) → exactly_symbol s ds ≡ Some us → exactly_symbol s (ds ++ cs) ≡ Some (us ++ cs)
 symbol_frame (Tok k) [] us cs e = absurd (cc)
-symbol_frame (Tok k) (d ∷ ds) us cs e = ap (λ (l : List Demand). Some (l ++ cs)) (some_is ds us e)
+symbol_frame (Tok k) (d ∷ ds) us cs e = ap (λ (l : List Demand). Some (l ++ cs)) (same_Some ds us e)
 symbol_frame (Do a) ds us cs e = action_frame a ds us cs e
 symbol_frame (Non x) [] us cs e = absurd (cc)
-symbol_frame (Non x) (d ∷ ds) us cs e = ap Some (sym (append_assoc (map (asked_by d) (asks_exactly x)) ds cs)) ∙ ap (λ (l : List Demand). Some (l ++ cs)) (some_is _ us e)
+symbol_frame (Non x) (d ∷ ds) us cs e = ap Some (sym (append_assoc (map (asked_by d) (asks_exactly x)) ds cs)) ∙ ap (λ (l : List Demand). Some (l ++ cs)) (same_Some _ us e)
 
 exactly_frame : (symbols : List Symbol) (ds us cs : List Demand) → exactly symbols (Some ds) ≡ Some us → exactly symbols (Some (ds ++ cs)) ≡ Some (us ++ cs)
-exactly_frame [] ds us cs e = ap (λ (l : List Demand). Some (l ++ cs)) (some_is ds us e)
+exactly_frame [] ds us cs e = ap (λ (l : List Demand). Some (l ++ cs)) (same_Some ds us e)
 exactly_frame (s ∷ symbols) ds us cs e = go (exactly symbols (Some ds)) refl e (λ rs h. exactly_frame symbols ds rs cs h)
   where
     go : (o : Option (List Demand)) → exactly symbols (Some ds) ≡ o → exactly_before s o ≡ Some us

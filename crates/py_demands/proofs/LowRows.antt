@@ -10,7 +10,7 @@ use Rattle.py_fronts.specs.Kinds.{gives}
 use Rattle.py_demands.specs.Roles.{Change, Below, Apart, Loose, Turned, Role, Lost, Head, Through, asked_by, roles, asked_before}
 use Rattle.py_demands.specs.Least.{Ask, NoNode, AtLeast, WithinAtLeast, OpenAtLeast, ask_changed, ask_all_changed, ask_head, ask_by, Least, As, Opened, ask_least, low, before_action, before_symbol, before, least, gives_expression, gives_items, may_ask, may_ask_first, are_askable, asks_no_more, ask_no_more}
 use Rattle.py_demands.proofs.AsksKept.{drops_or_leaves}
-use Rattle.py_fronts.proofs.TreesBegin.{some_is}
+use Rattle.std.proofs.lemmas.Option.{same_Some}
 use Rattle.py_demands.proofs.RowsLow.{no_more, row_is_low, rows_are_low, all_low}
 
 -- one more above
@@ -188,22 +188,22 @@ action_frame a qs bs cs e = go (drops_or_leaves a) qs e
         × ((q : Ask) (qs : List Ask) → before_action a (q ∷ qs) ≡ Some (map (ask_by q) (roles a) ++ qs)) × (before_action a [] ≡ None))
         → (qs : List Ask) → before_action a qs ≡ Some bs → before_action a (qs ++ cs) ≡ Some (bs ++ cs)
     go (inl is) qs e =
-        let same : NoNode ∷ qs ≡ bs = some_is (NoNode ∷ qs) bs (sym (ap (λ (b : Action). before_action b qs) is) ∙ e) in
+        let same : NoNode ∷ qs ≡ bs = same_Some (NoNode ∷ qs) bs (sym (ap (λ (b : Action). before_action b qs) is) ∙ e) in
         ap (λ (b : Action). before_action b (qs ++ cs)) is ∙ ap (λ (l : List Ask). Some (l ++ cs)) same
     go (inr (one, two, three)) [] e = let none : None ≡ Some bs = sym three ∙ e in absurd (cc)
     go (inr (one, two, three)) (q ∷ qs) e =
-        let same : map (ask_by q) (roles a) ++ qs ≡ bs = some_is _ bs (sym (two q qs) ∙ e) in
+        let same : map (ask_by q) (roles a) ++ qs ≡ bs = same_Some _ bs (sym (two q qs) ∙ e) in
         two q (qs ++ cs) ∙ ap Some (sym (append_assoc (map (ask_by q) (roles a)) qs cs)) ∙ ap (λ (l : List Ask). Some (l ++ cs)) same
 
 symbol_frame : (s : Symbol) (qs bs cs : List Ask) → before_symbol s qs ≡ Some bs → before_symbol s (qs ++ cs) ≡ Some (bs ++ cs)
 symbol_frame (Tok k) [] bs cs e = absurd (cc)
-symbol_frame (Tok k) (q ∷ qs) bs cs e = ap (λ (l : List Ask). Some (l ++ cs)) (some_is qs bs e)
+symbol_frame (Tok k) (q ∷ qs) bs cs e = ap (λ (l : List Ask). Some (l ++ cs)) (same_Some qs bs e)
 symbol_frame (Do a) qs bs cs e = action_frame a qs bs cs e
 symbol_frame (Non x) [] bs cs e = absurd (cc)
-symbol_frame (Non x) (q ∷ qs) bs cs e = ap Some (sym (append_assoc (map (ask_least q) (low x)) qs cs)) ∙ ap (λ (l : List Ask). Some (l ++ cs)) (some_is _ bs e)
+symbol_frame (Non x) (q ∷ qs) bs cs e = ap Some (sym (append_assoc (map (ask_least q) (low x)) qs cs)) ∙ ap (λ (l : List Ask). Some (l ++ cs)) (same_Some _ bs e)
 
 pub least_frame : (symbols : List Symbol) (qs bs cs : List Ask) → least symbols (Some qs) ≡ Some bs → least symbols (Some (qs ++ cs)) ≡ Some (bs ++ cs)
-least_frame [] qs bs cs e = ap (λ (l : List Ask). Some (l ++ cs)) (some_is qs bs e)
+least_frame [] qs bs cs e = ap (λ (l : List Ask). Some (l ++ cs)) (same_Some qs bs e)
 least_frame (s ∷ symbols) qs bs cs e = go (least symbols (Some qs)) refl e (λ rs h. least_frame symbols qs rs cs h)
   where
     go : (o : Option (List Ask)) → least symbols (Some qs) ≡ o → before s o ≡ Some bs

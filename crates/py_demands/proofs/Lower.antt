@@ -9,7 +9,7 @@ use Rattle.py_nesting.specs.TreeOutlines.{body_outline}
 use Rattle.py_nesting.specs.Walk.{Whole, raise}
 use Rattle.py_nesting.proofs.OutlinesCount.{outline_law}
 use Rattle.py_fronts.proofs.FrontsReached.{completion_law}
-use Rattle.py_fronts.proofs.DepthsGo.{from_the_top}
+use Rattle.py_nesting.proofs.FirstFound.{from_the_top}
 use Rattle.py_demands.specs.Least.{AtLeast}
 use Rattle.py_demands.specs.Bound.{standing, LowerLaw}
 use Rattle.py_demands.proofs.Bounded.{bounded}

@@ -3,11 +3,12 @@ use Rattle.std.proofs.Common.{◌≡◌, ℕ, zero, suc, ◌≤◌, ◌<◌, Boo
 use Rattle.py_tokens.specs.Token.{Place}
 use Rattle.py_syntax.specs.Token.{Token, At}
 use Rattle.py_syntax.specs.Build.{PToken, Parts, Action, Drop, act}
-use Rattle.py_nesting.specs.Outlines.{Label, Plain, Bracket, Tuple, Outline, outline_depth, Event, built}
+use Rattle.py_nesting.specs.Outlines.{Label, Plain, Bracket, Tuple, outline_depth, Event, built}
 use Rattle.py_nesting.specs.Shapes.{entry_of, Entry, entries_of, outlines_of}
 use Rattle.py_nesting.specs.Effects.{effect, effect_of}
 use Rattle.py_nesting.specs.TreeOutlines.{leaf}
-use Rattle.py_nesting.specs.Walk.{Demand, Nothing, Whole, Inside, Assigned, InsideAssigned, raise, demanded, depth_of, comes}
+use Rattle.py_nesting.specs.Walk.{Demand, Nothing, Whole, Inside, Assigned, InsideAssigned, raise, demanded, comes}
+use Rattle.py_nesting.proofs.WalkCounts.{nothing_asked}
 use Rattle.py_fronts.specs.Begins.{Begin}
 use Rattle.py_demands.specs.Roles.{Change, Below, Apart, Loose, Turned, Role, Lost, Head, Through, changed, all_changed, at_token, asked_by, roles, asked_before}
 use Rattle.py_demands.specs.Asks.{place_of, entry_depth}
@@ -75,10 +76,6 @@ action_ordered a [] [] h = h
 action_ordered a [] (d ∷ ds) h = absurd h
 action_ordered a (u ∷ us) [] h = absurd h
 action_ordered a (u ∷ us) (d ∷ ds) h = roles_ordered (roles a) u d us ds h.0 h.1
-
-nothing_asked : (at : Place → Bool) (os : List Outline) → depth_of at os [] ≡ 0
-nothing_asked at [] = refl
-nothing_asked at (o ∷ os) = refl
 
 pub away_at_start : (at : Place → Bool) → IsAway at []
 away_at_start at ds = refl

@@ -12,7 +12,7 @@ use Rattle.py_fronts.specs.Begins.{Begin}
 use Rattle.py_fronts.proofs.TreesBegin.{expr_begins}
 use Rattle.py_demands.specs.Roles.{asked_before}
 use Rattle.py_demands.specs.Asks.{of_outlines, starts_depth}
-use Rattle.py_demands.proofs.EffectsTied.{no_effect}
+use Rattle.py_nesting.proofs.EffectsKept.{no_effect}
 
 whole_below : (n k : ℕ) (b : Bool) → (b ≡ true → 1 ≤ k) → max (raise n (here b)) 0 ≤ raise (suc n) k
 whole_below n k false h = omega arith

@@ -15,7 +15,8 @@ use Rattle.py_nesting.specs.Shapes.{outlines_of}
 use Rattle.py_nesting.specs.Effects.{effect, after_all}
 use Rattle.py_nesting.specs.Walk.{Whole}
 use Rattle.py_nesting.proofs.EffectsKept.{effects_kept}
-use Rattle.py_fronts.proofs.FrontsReached.{at_beginning, over_action, over_token, over_row, built_more}
+use Rattle.py_fronts.proofs.FrontsReached.{at_beginning, over_action, over_token, over_row}
+use Rattle.py_nesting.proofs.EventsAdded.{built_more}
 use Rattle.py_demands.specs.Asks.{place_of, avoids}
 use Rattle.py_demands.specs.Least.{Ask, AtLeast, before, least, may_ask_first, are_askable}
 use Rattle.py_demands.specs.Behind.{is_once}

@@ -1,8 +1,9 @@
 -- Entries and events stand for parts.
-use Rattle.std.proofs.Common.{◌≡◌, Bool, List, [], ◌∷◌, ◌++◌, map, Option, Some, None, refl, sym, ap, ◌∙◌}
+use Rattle.std.proofs.Common.{◌≡◌, Bool, List, ◌++◌, Option, Some, None, refl, sym, ap, ◌∙◌}
 use Rattle.py_syntax.specs.Build.{Parts, Action, act, are_targets_last, is_target_last, is_name_last}
+use Rattle.py_nesting.proofs.EventsAdded.{built_more}
 use Rattle.py_nesting.proofs.FormsAgree.{targets_of_entries, target_of_entries, name_of_entries}
-use Rattle.py_nesting.specs.Outlines.{Event, after, built}
+use Rattle.py_nesting.specs.Outlines.{Event, built}
 use Rattle.py_nesting.specs.Shapes as shapes
 use Rattle.py_nesting.specs.Shapes.{Entry, outlines_of}
 use Rattle.py_nesting.specs.Effects.{Effect, effect, effect_of, after_all}
@@ -11,10 +12,6 @@ use Rattle.py_nesting.specs.Asked.{targets_last, target_last, name_last}
 use Rattle.py_depth.specs.Nests.{onto, IsAfter}
 use Rattle.py_depth.specs.PlainEntries.{entries_of, events_of}
 use Rattle.py_depth.specs.declared.nest.Nest.{Nest}
-
-built_more : (more events : List Event) → built (more ++ events) ≡ after_all more (built events)
-built_more [] events = refl
-built_more (e ∷ more) events = ap (after e) (built_more more events)
 
 keeps : (a : Action) (v : Parts) (es fs : List Entry) (events news : List Event) (r : Option Effect) → effect_of a (shapes.entries_of v) ≡ r
     → onto r events ≡ Some (effect fs news) → built events ≡ Some (outlines_of v)

@@ -35,25 +35,17 @@ fit_make_leaf : (es below : List Entry) → all_fit (ALiteralToken ∷ []) es �
 fit_make_leaf (entry (TokenShape LiteralToken) p0 ∷ []) below h = one AnExpr refl
 fit_make_leaf es below h = no_fit h
 
-fit_make_true : (es below : List Entry) → all_fit (AToken ∷ []) es ≡ true → Leaves (effect_constant (es ++ below)) (AnExpr ∷ []) below
-fit_make_true (entry (TokenShape t0) p0 ∷ []) below h = one AnExpr refl
-fit_make_true es below h = no_fit h
-
-fit_make_false : (es below : List Entry) → all_fit (AToken ∷ []) es ≡ true → Leaves (effect_constant (es ++ below)) (AnExpr ∷ []) below
-fit_make_false (entry (TokenShape t0) p0 ∷ []) below h = one AnExpr refl
-fit_make_false es below h = no_fit h
-
-fit_make_none : (es below : List Entry) → all_fit (AToken ∷ []) es ≡ true → Leaves (effect_constant (es ++ below)) (AnExpr ∷ []) below
-fit_make_none (entry (TokenShape t0) p0 ∷ []) below h = one AnExpr refl
-fit_make_none es below h = no_fit h
+fit_constant : (es below : List Entry) → all_fit (AToken ∷ []) es ≡ true → Leaves (effect_constant (es ++ below)) (AnExpr ∷ []) below
+fit_constant (entry (TokenShape t0) p0 ∷ []) below h = one AnExpr refl
+fit_constant es below h = no_fit h
 
 fit_make_empty_tuple : (es below : List Entry) → all_fit (AToken ∷ AToken ∷ []) es ≡ true → Leaves (effect_make_empty_tuple (es ++ below)) (AnExpr ∷ []) below
 fit_make_empty_tuple (entry (TokenShape t0) p0 ∷ entry (TokenShape t1) p1 ∷ []) below h = one AnExpr refl
 fit_make_empty_tuple es below h = no_fit h
 
-fit_make_parenthesis : (es below : List Entry) → all_fit (AToken ∷ AnExpr ∷ AToken ∷ []) es ≡ true → Leaves (effect_bracket (es ++ below)) (AnExpr ∷ []) below
-fit_make_parenthesis (entry (TokenShape t0) p0 ∷ entry (ExprShape f1 n1) p1 ∷ entry (TokenShape t2) p2 ∷ []) below h = one AnExpr refl
-fit_make_parenthesis es below h = no_fit h
+fit_bracket : (es below : List Entry) → all_fit (AToken ∷ AnExpr ∷ AToken ∷ []) es ≡ true → Leaves (effect_bracket (es ++ below)) (AnExpr ∷ []) below
+fit_bracket (entry (TokenShape t0) p0 ∷ entry (ExprShape f1 n1) p1 ∷ entry (TokenShape t2) p2 ∷ []) below h = one AnExpr refl
+fit_bracket es below h = no_fit h
 
 fit_make_tuple : (es below : List Entry) → all_fit (AToken ∷ AnExpr ∷ []) es ≡ true → Leaves (effect_make_tuple (es ++ below)) (ATuple ∷ []) below
 fit_make_tuple (entry (TokenShape t0) p0 ∷ entry (ExprShape f1 n1) p1 ∷ []) below h = one ATuple refl
@@ -66,10 +58,6 @@ fit_add_item es below h = no_fit h
 fit_make_empty_list : (es below : List Entry) → all_fit (AToken ∷ AToken ∷ []) es ≡ true → Leaves (effect_make_empty_list (es ++ below)) (AnExpr ∷ []) below
 fit_make_empty_list (entry (TokenShape t0) p0 ∷ entry (TokenShape t1) p1 ∷ []) below h = one AnExpr refl
 fit_make_empty_list es below h = no_fit h
-
-fit_make_list_of_one : (es below : List Entry) → all_fit (AToken ∷ AnExpr ∷ AToken ∷ []) es ≡ true → Leaves (effect_bracket (es ++ below)) (AnExpr ∷ []) below
-fit_make_list_of_one (entry (TokenShape t0) p0 ∷ entry (ExprShape f1 n1) p1 ∷ entry (TokenShape t2) p2 ∷ []) below h = one AnExpr refl
-fit_make_list_of_one es below h = no_fit h
 
 fit_make_list : (es below : List Entry) → all_fit (AToken ∷ ATuple ∷ AToken ∷ []) es ≡ true → Leaves (effect_make_list (es ++ below)) (AnExpr ∷ []) below
 fit_make_list (entry (TokenShape t0) p0 ∷ entry (ExprShape (TupleForm u1) false) p1 ∷ entry (TokenShape t2) p2 ∷ []) below h = one AnExpr refl
@@ -143,9 +131,9 @@ fit_add_upper : (es below : List Entry) → all_fit (AToken ∷ AnExpr ∷ AnOpe
 fit_add_upper (entry (TokenShape t0) p0 ∷ entry (ExprShape f1 n1) p1 ∷ entry (ExprShape (SliceForm false) n2) p2 ∷ []) below h = one AnExpr refl
 fit_add_upper es below h = no_fit h
 
-fit_make_unary : (es below : List Entry) → all_fit (AnExpr ∷ AToken ∷ []) es ≡ true → Leaves (effect_prefix (es ++ below)) (AnExpr ∷ []) below
-fit_make_unary (entry (ExprShape f0 n0) p0 ∷ entry (TokenShape t1) p1 ∷ []) below h = one AnExpr refl
-fit_make_unary es below h = no_fit h
+fit_prefix : (es below : List Entry) → all_fit (AnExpr ∷ AToken ∷ []) es ≡ true → Leaves (effect_prefix (es ++ below)) (AnExpr ∷ []) below
+fit_prefix (entry (ExprShape f0 n0) p0 ∷ entry (TokenShape t1) p1 ∷ []) below h = one AnExpr refl
+fit_prefix es below h = no_fit h
 
 fit_make_binary : (es below : List Entry) → all_fit (AnExpr ∷ AToken ∷ AnExpr ∷ []) es ≡ true → Leaves (effect_infix OtherForm (es ++ below)) (AnExpr ∷ []) below
 fit_make_binary (entry (ExprShape f0 n0) p0 ∷ entry (TokenShape t1) p1 ∷ entry (ExprShape f2 n2) p2 ∷ []) below h = one AnExpr refl
@@ -166,10 +154,6 @@ fit_make_compare es below h = no_fit h
 fit_add_link : (es below : List Entry) → all_fit (AnExpr ∷ ASign ∷ ACompare ∷ []) es ≡ true → Leaves (effect_add_link (es ++ below)) (ACompare ∷ []) below
 fit_add_link (entry (ExprShape f0 n0) p0 ∷ entry SignShape p1 ∷ entry (ExprShape CompareForm n2) p2 ∷ []) below h = one ACompare refl
 fit_add_link es below h = no_fit h
-
-fit_make_not : (es below : List Entry) → all_fit (AnExpr ∷ AToken ∷ []) es ≡ true → Leaves (effect_prefix (es ++ below)) (AnExpr ∷ []) below
-fit_make_not (entry (ExprShape f0 n0) p0 ∷ entry (TokenShape t1) p1 ∷ []) below h = one AnExpr refl
-fit_make_not es below h = no_fit h
 
 fit_make_and : (es below : List Entry) → all_fit (AnExpr ∷ AToken ∷ AnExpr ∷ []) es ≡ true → Leaves (effect_infix AndForm (es ++ below)) (AnAnd ∷ []) below
 fit_make_and (entry (ExprShape f0 n0) p0 ∷ entry (TokenShape t1) p1 ∷ entry (ExprShape f2 n2) p2 ∷ []) below h = one AnAnd refl
@@ -238,33 +222,13 @@ fit_make_augmented (entry (ExprShape f0 n0) p0 ∷ entry (TokenShape t1) p1 ∷ 
 fit_make_augmented (entry (ExprShape f0 n0) p0 ∷ entry (TokenShape t1) p1 ∷ entry (ExprShape f2 n2) p2 ∷ es) below h = no_end (is_target f2) h
 fit_make_augmented es below h = no_fit h
 
-fit_make_pass : (es below : List Entry) → all_fit (AToken ∷ []) es ≡ true → Leaves (effect_word (es ++ below)) (AStmt ∷ []) below
-fit_make_pass (entry (TokenShape t0) p0 ∷ []) below h = one AStmt refl
-fit_make_pass es below h = no_fit h
+fit_word : (es below : List Entry) → all_fit (AToken ∷ []) es ≡ true → Leaves (effect_word (es ++ below)) (AStmt ∷ []) below
+fit_word (entry (TokenShape t0) p0 ∷ []) below h = one AStmt refl
+fit_word es below h = no_fit h
 
-fit_make_break : (es below : List Entry) → all_fit (AToken ∷ []) es ≡ true → Leaves (effect_word (es ++ below)) (AStmt ∷ []) below
-fit_make_break (entry (TokenShape t0) p0 ∷ []) below h = one AStmt refl
-fit_make_break es below h = no_fit h
-
-fit_make_continue : (es below : List Entry) → all_fit (AToken ∷ []) es ≡ true → Leaves (effect_word (es ++ below)) (AStmt ∷ []) below
-fit_make_continue (entry (TokenShape t0) p0 ∷ []) below h = one AStmt refl
-fit_make_continue es below h = no_fit h
-
-fit_make_return : (es below : List Entry) → all_fit (AToken ∷ []) es ≡ true → Leaves (effect_word (es ++ below)) (AStmt ∷ []) below
-fit_make_return (entry (TokenShape t0) p0 ∷ []) below h = one AStmt refl
-fit_make_return es below h = no_fit h
-
-fit_make_return_value : (es below : List Entry) → all_fit (AnExpr ∷ AToken ∷ []) es ≡ true → Leaves (effect_with_value (es ++ below)) (AStmt ∷ []) below
-fit_make_return_value (entry (ExprShape f0 n0) p0 ∷ entry (TokenShape t1) p1 ∷ []) below h = one AStmt refl
-fit_make_return_value es below h = no_fit h
-
-fit_make_raise : (es below : List Entry) → all_fit (AnExpr ∷ AToken ∷ []) es ≡ true → Leaves (effect_with_value (es ++ below)) (AStmt ∷ []) below
-fit_make_raise (entry (ExprShape f0 n0) p0 ∷ entry (TokenShape t1) p1 ∷ []) below h = one AStmt refl
-fit_make_raise es below h = no_fit h
-
-fit_make_yield : (es below : List Entry) → all_fit (AnExpr ∷ AToken ∷ []) es ≡ true → Leaves (effect_with_value (es ++ below)) (AStmt ∷ []) below
-fit_make_yield (entry (ExprShape f0 n0) p0 ∷ entry (TokenShape t1) p1 ∷ []) below h = one AStmt refl
-fit_make_yield es below h = no_fit h
+fit_with_value : (es below : List Entry) → all_fit (AnExpr ∷ AToken ∷ []) es ≡ true → Leaves (effect_with_value (es ++ below)) (AStmt ∷ []) below
+fit_with_value (entry (ExprShape f0 n0) p0 ∷ entry (TokenShape t1) p1 ∷ []) below h = one AStmt refl
+fit_with_value es below h = no_fit h
 
 fit_begin_global : (es below : List Entry) → all_fit (AToken ∷ []) es ≡ true → Leaves (effect_begin_global (es ++ below)) (AGlobal ∷ []) below
 fit_begin_global (entry (TokenShape t0) p0 ∷ []) below h = one AGlobal refl
@@ -273,10 +237,6 @@ fit_begin_global es below h = no_fit h
 fit_add_global : (es below : List Entry) → all_fit (ANameToken ∷ AGlobal ∷ []) es ≡ true → Leaves (effect_add_global (es ++ below)) (AGlobal ∷ []) below
 fit_add_global (entry (TokenShape NameToken) p0 ∷ entry (StmtShape GlobalStmt n1) p1 ∷ []) below h = one AGlobal refl
 fit_add_global es below h = no_fit h
-
-fit_make_assert : (es below : List Entry) → all_fit (AnExpr ∷ AToken ∷ []) es ≡ true → Leaves (effect_with_value (es ++ below)) (AStmt ∷ []) below
-fit_make_assert (entry (ExprShape f0 n0) p0 ∷ entry (TokenShape t1) p1 ∷ []) below h = one AStmt refl
-fit_make_assert es below h = no_fit h
 
 fit_make_assert_message : (es below : List Entry) → all_fit (AnExpr ∷ AToken ∷ AnExpr ∷ AToken ∷ []) es ≡ true → Leaves (effect_make_assert_message (es ++ below)) (AStmt ∷ []) below
 fit_make_assert_message (entry (ExprShape f0 n0) p0 ∷ entry (TokenShape t1) p1 ∷ entry (ExprShape f2 n2) p2 ∷ entry (TokenShape t3) p3 ∷ []) below h = one AStmt refl
@@ -358,10 +318,6 @@ fit_end_class : (es below : List Entry) → all_fit (AFilledBody ∷ AToken ∷ 
 fit_end_class (entry (BodyShape true) p0 ∷ entry (TokenShape t1) p1 ∷ entry (StmtShape ClassStmt false) p2 ∷ []) below h = one AStmt refl
 fit_end_class es below h = no_fit h
 
-fit_begin_import : (es below : List Entry) → all_fit (AToken ∷ []) es ≡ true → Leaves (effect_word (es ++ below)) (AStmt ∷ []) below
-fit_begin_import (entry (TokenShape t0) p0 ∷ []) below h = one AStmt refl
-fit_begin_import es below h = no_fit h
-
 fit_begin_from : (es below : List Entry) → all_fit (AToken ∷ ANameToken ∷ AToken ∷ []) es ≡ true → Leaves (effect_begin_from (es ++ below)) (AStmt ∷ []) below
 fit_begin_from (entry (TokenShape t0) p0 ∷ entry (TokenShape NameToken) p1 ∷ entry (TokenShape t2) p2 ∷ []) below h = one AStmt refl
 fit_begin_from es below h = no_fit h
@@ -382,15 +338,15 @@ fit_name es below h = no_fit h
 pub actions_fit : (a : Action) (es below : List Entry) → all_fit (needs a) es ≡ true → Leaves (effect_of a (es ++ below)) (leaves a) below
 actions_fit Drop es below h = fit_drop es below h
 actions_fit MakeLeaf es below h = fit_make_leaf es below h
-actions_fit MakeTrue es below h = fit_make_true es below h
-actions_fit MakeFalse es below h = fit_make_false es below h
-actions_fit MakeNone es below h = fit_make_none es below h
+actions_fit MakeTrue es below h = fit_constant es below h
+actions_fit MakeFalse es below h = fit_constant es below h
+actions_fit MakeNone es below h = fit_constant es below h
 actions_fit MakeEmptyTuple es below h = fit_make_empty_tuple es below h
-actions_fit MakeParenthesis es below h = fit_make_parenthesis es below h
+actions_fit MakeParenthesis es below h = fit_bracket es below h
 actions_fit MakeTuple es below h = fit_make_tuple es below h
 actions_fit AddItem es below h = fit_add_item es below h
 actions_fit MakeEmptyList es below h = fit_make_empty_list es below h
-actions_fit MakeListOfOne es below h = fit_make_list_of_one es below h
+actions_fit MakeListOfOne es below h = fit_bracket es below h
 actions_fit MakeList es below h = fit_make_list es below h
 actions_fit BeginComprehension es below h = fit_begin_comprehension es below h
 actions_fit BeginLoop es below h = fit_begin_loop es below h
@@ -409,13 +365,13 @@ actions_fit MakeSubscript es below h = fit_make_subscript es below h
 actions_fit MakeSliceFrom es below h = fit_make_slice_from es below h
 actions_fit MakeSlice es below h = fit_make_slice es below h
 actions_fit AddUpper es below h = fit_add_upper es below h
-actions_fit (MakeUnary o) es below h = fit_make_unary es below h
+actions_fit (MakeUnary o) es below h = fit_prefix es below h
 actions_fit (MakeBinary o) es below h = fit_make_binary es below h
 actions_fit (MakeSign o) es below h = fit_make_sign es below h
 actions_fit (MakeLongSign o) es below h = fit_make_long_sign es below h
 actions_fit MakeCompare es below h = fit_make_compare es below h
 actions_fit AddLink es below h = fit_add_link es below h
-actions_fit MakeNot es below h = fit_make_not es below h
+actions_fit MakeNot es below h = fit_prefix es below h
 actions_fit MakeAnd es below h = fit_make_and es below h
 actions_fit AddAnd es below h = fit_add_and es below h
 actions_fit MakeOr es below h = fit_make_or es below h
@@ -432,16 +388,16 @@ actions_fit MakeTargets es below h = fit_make_targets es below h
 actions_fit AddTargets es below h = fit_add_targets es below h
 actions_fit MakeAssign es below h = fit_make_assign es below h
 actions_fit (MakeAugmented o) es below h = fit_make_augmented es below h
-actions_fit MakePass es below h = fit_make_pass es below h
-actions_fit MakeBreak es below h = fit_make_break es below h
-actions_fit MakeContinue es below h = fit_make_continue es below h
-actions_fit MakeReturn es below h = fit_make_return es below h
-actions_fit MakeReturnValue es below h = fit_make_return_value es below h
-actions_fit MakeRaise es below h = fit_make_raise es below h
-actions_fit MakeYield es below h = fit_make_yield es below h
+actions_fit MakePass es below h = fit_word es below h
+actions_fit MakeBreak es below h = fit_word es below h
+actions_fit MakeContinue es below h = fit_word es below h
+actions_fit MakeReturn es below h = fit_word es below h
+actions_fit MakeReturnValue es below h = fit_with_value es below h
+actions_fit MakeRaise es below h = fit_with_value es below h
+actions_fit MakeYield es below h = fit_with_value es below h
 actions_fit BeginGlobal es below h = fit_begin_global es below h
 actions_fit AddGlobal es below h = fit_add_global es below h
-actions_fit MakeAssert es below h = fit_make_assert es below h
+actions_fit MakeAssert es below h = fit_with_value es below h
 actions_fit MakeAssertMessage es below h = fit_make_assert_message es below h
 actions_fit MakeDelete es below h = fit_make_delete es below h
 actions_fit MakeIf es below h = fit_make_if es below h
@@ -462,7 +418,7 @@ actions_fit EndDef es below h = fit_end_def es below h
 actions_fit BeginClass es below h = fit_begin_class es below h
 actions_fit AddBase es below h = fit_add_base es below h
 actions_fit EndClass es below h = fit_end_class es below h
-actions_fit BeginImport es below h = fit_begin_import es below h
+actions_fit BeginImport es below h = fit_word es below h
 actions_fit BeginFrom es below h = fit_begin_from es below h
 actions_fit AddImported es below h = fit_add_imported es below h
 actions_fit AddImportedAs es below h = fit_add_imported_as es below h

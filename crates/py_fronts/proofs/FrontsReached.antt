@@ -13,9 +13,9 @@ use Rattle.py_syntax.specs.Laws.{goal, start, finished}
 use Rattle.py_syntax.proofs.KeptAll.{spelt_so}
 use Rattle.py_syntax.proofs.TableLaws.{tree_is_reached}
 use Rattle.py_nesting.specs.Shapes.{entry_of}
-use Rattle.py_nesting.specs.Outlines.{Event, after, built}
 use Rattle.py_nesting.specs.Effects.{effect, after_all}
 use Rattle.py_nesting.proofs.EffectsKept.{effects_kept}
+use Rattle.py_nesting.proofs.EventsAdded.{built_more}
 use Rattle.py_fronts.specs.Kinds.{fits, token_kind}
 use Rattle.py_fronts.specs.Fit.{Fit}
 use Rattle.py_fronts.specs.AtFront.{AtFront, CompletionLaw}
@@ -53,10 +53,6 @@ longer (suc k) n symbols v ts w h = let e : suc k + n ≡ suc (k + n) = omega ar
 
 pub at_beginning : (front : List Token) → AtFront front front goal start
 at_beginning front = record { steps = 0; goes = λ more n. (let e : 0 + n ≡ n = omega arith in rw e refl); derives = λ more w y. y; fit = start_law; events = []; put = refl; begun = tt }
-
-pub built_more : (more events : List Event) → built (more ++ events) ≡ after_all more (built events)
-built_more [] events = refl
-built_more (e ∷ more) events = ap (after e) (built_more more events)
 
 -- one step further
 deeper : (k n : ℕ) → suc k + n ≡ k + suc n

@@ -29,17 +29,17 @@ augmented_begin : (o : BinaryOperator) (a e : Expr) (r : Option Target) (v : Par
 augmented_begin o a e None v h = h
 augmented_begin o a e (Some t) v h = (tt, h)
 
-make_targets_begins : (v : Parts) → Begin v → Begin (make_targets v)
-make_targets_begins (PToken equals ∷ PExpr e ∷ v) h = found_begin e (targets_of e) v refl h.1.0 h.1.1
-make_targets_begins v h = h
+kept_make_targets : (v : Parts) → Begin v → Begin (make_targets v)
+kept_make_targets (PToken equals ∷ PExpr e ∷ v) h = found_begin e (targets_of e) v refl h.1.0 h.1.1
+kept_make_targets v h = h
 
-add_targets_begins : (v : Parts) → Begin v → Begin (add_targets v)
-add_targets_begins (PToken equals ∷ PExpr e ∷ PTargets p ts ∷ v) h = more_begin e p ts (targets_of e) v h.1.1.0 h.1.1.1
-add_targets_begins v h = h
+kept_add_targets : (v : Parts) → Begin v → Begin (add_targets v)
+kept_add_targets (PToken equals ∷ PExpr e ∷ PTargets p ts ∷ v) h = more_begin e p ts (targets_of e) v h.1.1.0 h.1.1.1
+kept_add_targets v h = h
 
-make_augmented_begins : (o : BinaryOperator) (v : Parts) → Begin v → Begin (make_augmented o v)
-make_augmented_begins o (PExpr e ∷ PToken t ∷ PExpr a ∷ v) h = augmented_begin o a e (target_of a) v h.1.1.1
-make_augmented_begins o v h = h
+kept_make_augmented : (o : BinaryOperator) (v : Parts) → Begin v → Begin (make_augmented o v)
+kept_make_augmented o (PExpr e ∷ PToken t ∷ PExpr a ∷ v) h = augmented_begin o a e (target_of a) v h.1.1.1
+kept_make_augmented o v h = h
 
 kept_drop : (v : Parts) → Begin v → Begin (drop v)
 kept_drop (PToken t ∷ v) h = h.1
@@ -234,21 +234,9 @@ kept_make_expr_stmt : (v : Parts) → Begin v → Begin (make_expr_stmt v)
 kept_make_expr_stmt (PExpr e ∷ v) h = (tt, h.1)
 kept_make_expr_stmt v h = h
 
-kept_make_targets : (v : Parts) → Begin v → Begin (make_targets v)
-kept_make_targets (PToken equals ∷ PExpr e ∷ v) h = make_targets_begins (PToken equals ∷ PExpr e ∷ v) h
-kept_make_targets v h = h
-
-kept_add_targets : (v : Parts) → Begin v → Begin (add_targets v)
-kept_add_targets (PToken equals ∷ PExpr e ∷ PTargets p ts ∷ v) h = add_targets_begins (PToken equals ∷ PExpr e ∷ PTargets p ts ∷ v) h
-kept_add_targets v h = h
-
 kept_make_assign : (v : Parts) → Begin v → Begin (make_assign v)
 kept_make_assign (PExpr e ∷ PTargets p ts ∷ v) h = (tt, h.1.1)
 kept_make_assign v h = h
-
-kept_make_augmented : (o : BinaryOperator) (v : Parts) → Begin v → Begin (make_augmented o v)
-kept_make_augmented o (PExpr e ∷ PToken t ∷ PExpr a ∷ v) h = make_augmented_begins o (PExpr e ∷ PToken t ∷ PExpr a ∷ v) h
-kept_make_augmented o v h = h
 
 kept_make_pass : (v : Parts) → Begin v → Begin (make_pass v)
 kept_make_pass (PToken (At p k) ∷ v) h = (tt, h.1)

@@ -1,5 +1,8 @@
 -- What is built has no unbuilt place, and what has none is built.
 use Rattle.std.proofs.Common.{◌≡◌, Bool, true, false, ◌&&◌, if◌then◌else◌, List, [], ◌∷◌, ◌++◌, ◌↔◌, refl, sym, ap, ◌∙◌, subst, Option, Some, None}
+use Rattle.std.proofs.lemmas.Option.{none-some, same_Some}
+use Rattle.grammars.proofs.Bools as bools
+use Rattle.grammars.proofs.Bools.{and_left, and_right}
 use Rattle.std.specs.Option.{option_map}
 use Rattle.py_tokens.specs.Token.{Place}
 use Rattle.py_syntax.specs.Tree as whole
@@ -19,23 +22,6 @@ append_right (p ∷ l) m h = absurd (cc)
 append_none : (l m : List Place) → l ≡ [] → m ≡ [] → l ++ m ≡ []
 append_none l m h k = rw (h, k) refl
 
-first_true : (a b : Bool) → (a && b) ≡ true → a ≡ true
-first_true true b h = refl
-first_true false b h = absurd (cc)
-
-second_true : (a b : Bool) → (a && b) ≡ true → b ≡ true
-second_true true b h = h
-second_true false b h = absurd (cc)
-
-both_true : (a b : Bool) → a ≡ true → b ≡ true → (a && b) ≡ true
-both_true a b h k = rw (h, k) refl
-
-same_inside : {A : Type 0} (a b : A) → Some a ≡ Some b → a ≡ b
-same_inside a b h = (cc)
-
-none_is : {A : Type 0} (a : A) → None ≡ Some a → ⊥
-none_is a h = (cc)
-
 -- there are no places just where there is something that reads what it may
 abbrev Built : {A : Type 0} → (A → Bool) → Option A → Type 0
 Built {A} reads o = (a : A) × (o ≡ Some a) × (reads a ≡ true)
@@ -44,15 +30,15 @@ abbrev Agrees : {A : Type 0} → (A → Bool) → List Place → Option A → Ty
 Agrees reads places o = (places ≡ []) ↔ Built reads o
 
 never : {A : Type 0} (reads : A → Bool) (p : Place) (places : List Place) → Agrees reads (p ∷ places) None
-never reads p places = (λ h. absurd (cc), λ b. absurd (none_is b.0 b.1))
+never reads p places = (λ h. absurd (cc), λ b. absurd (none-some b.0 b.1))
 
 of_what_reads : {A : Type 0} (reads : A → Bool) (a : A) → Built reads (Some a) → reads a ≡ true
-of_what_reads reads a b = rw (same_inside a b.0 b.1) b.2
+of_what_reads reads a b = rw (same_Some a b.0 b.1) b.2
 
 of_one : {A B : Type 0} (f : A → B) (reads : A → Bool) (reads_more : B → Bool)
     → ((a : A) → reads_more (f a) ≡ reads a)
     → (places : List Place) (o : Option A) → Agrees reads places o → Agrees reads_more places (option_map f o)
-of_one f reads reads_more e places None h = (λ k. absurd (none_is ((h.0 k).0) ((h.0 k).1)), λ b. absurd (none_is b.0 b.1))
+of_one f reads reads_more e places None h = (λ k. absurd (none-some ((h.0 k).0) ((h.0 k).1)), λ b. absurd (none-some b.0 b.1))
 of_one f reads reads_more e places (Some a) h = (
   λ k. (f a, refl, e a ∙ of_what_reads reads a (h.0 k)),
   λ b. h.1 (a, refl, sym (e a) ∙ of_what_reads reads_more (f a) b),
@@ -62,18 +48,18 @@ of_two : {A B C : Type 0} (f : A → B → C) (o : Option A) (o2 : Option B) (re
     → ((a : A) (b : B) → o ≡ Some a → reads_more (f a b) ≡ (reads a && reads2 b))
     → (l m : List Place) → Agrees reads l o → Agrees reads2 m o2 → Agrees reads_more (l ++ m) (both f o o2)
 of_two f None o2 reads reads2 reads_more e l m h h2 = (
-  λ k. let b : Built reads None = h.0 (append_left l m k) in absurd (none_is b.0 b.1),
-  λ b. absurd (none_is b.0 b.1),
+  λ k. let b : Built reads None = h.0 (append_left l m k) in absurd (none-some b.0 b.1),
+  λ b. absurd (none-some b.0 b.1),
 )
 of_two f (Some a) None reads reads2 reads_more e l m h h2 = (
-  λ k. let b : Built reads2 None = h2.0 (append_right l m k) in absurd (none_is b.0 b.1),
-  λ b. absurd (none_is b.0 b.1),
+  λ k. let b : Built reads2 None = h2.0 (append_right l m k) in absurd (none-some b.0 b.1),
+  λ b. absurd (none-some b.0 b.1),
 )
 of_two f (Some a) (Some b) reads reads2 reads_more e l m h h2 = (
-  λ k. (f a b, refl, e a b refl ∙ both_true (reads a) (reads2 b) (of_what_reads reads a (h.0 (append_left l m k))) (of_what_reads reads2 b (h2.0 (append_right l m k)))),
+  λ k. (f a b, refl, e a b refl ∙ bools.both (reads a) (reads2 b) (of_what_reads reads a (h.0 (append_left l m k))) (of_what_reads reads2 b (h2.0 (append_right l m k)))),
   λ c.
       let r : (reads a && reads2 b) ≡ true = sym (e a b refl) ∙ of_what_reads reads_more (f a b) c in
-      append_none l m (h.1 (a, refl, first_true (reads a) (reads2 b) r)) (h2.1 (b, refl, second_true (reads a) (reads2 b) r)),
+      append_none l m (h.1 (a, refl, and_left (reads a) (reads2 b) r)) (h2.1 (b, refl, and_right (reads a) (reads2 b) r)),
 )
 
 named : (sure : List Name) (p : Place) (x : Name) (a b : Bool) → has_name sure x ≡ b
@@ -219,30 +205,30 @@ mutual
 
 -- what something that was built of parts is
 made_of_one : {A B : Type 0} (f : A → B) (o : Option A) (b : B) → option_map f o ≡ Some b → (a : A) × (b ≡ f a)
-made_of_one f None b h = absurd (none_is b h)
-made_of_one f (Some a) b h = (a, same_inside b (f a) (sym h))
+made_of_one f None b h = absurd (none-some b h)
+made_of_one f (Some a) b h = (a, same_Some b (f a) (sym h))
 
 made_of_two : {A B C : Type 0} (f : A → B → C) (o : Option A) (o2 : Option B) (c : C) → both f o o2 ≡ Some c → (a : A) × (b : B) × (c ≡ f a b)
-made_of_two f None o2 c h = absurd (none_is c h)
-made_of_two f (Some a) None c h = absurd (none_is c h)
-made_of_two f (Some a) (Some b) c h = (a, b, same_inside c (f a b) (sym h))
+made_of_two f None o2 c h = absurd (none-some c h)
+made_of_two f (Some a) None c h = absurd (none-some c h)
+made_of_two f (Some a) (Some b) c h = (a, b, same_Some c (f a b) (sym h))
 
 made_of_three : {A B C D : Type 0} (f : A → B → C → D) (o : Option A) (o2 : Option B) (o3 : Option C) (d : D)
     → all_three f o o2 o3 ≡ Some d → (a : A) × (b : B) × (c : C) × (d ≡ f a b c)
-made_of_three f None o2 o3 d h = absurd (none_is d h)
-made_of_three f (Some a) None o3 d h = absurd (none_is d h)
-made_of_three f (Some a) (Some b) None d h = absurd (none_is d h)
-made_of_three f (Some a) (Some b) (Some c) d h = (a, b, c, same_inside d (f a b c) (sym h))
+made_of_three f None o2 o3 d h = absurd (none-some d h)
+made_of_three f (Some a) None o3 d h = absurd (none-some d h)
+made_of_three f (Some a) (Some b) None d h = absurd (none-some d h)
+made_of_three f (Some a) (Some b) (Some c) d h = (a, b, c, same_Some d (f a b c) (sym h))
 
 -- the names that are sure behind a statement are those behind what it is built as
 sure_of_assignment : (texts sure : List Name) (p : Place) (x : Option Name) (e : whole.Expr) (t : Stmt)
     → built_assignment texts p x e ≡ Some t → sure_after t sure ≡ with_assigned x sure
-sure_of_assignment texts sure p None e t h = absurd (none_is t h)
+sure_of_assignment texts sure p None e t h = absurd (none-some t h)
 sure_of_assignment texts sure p (Some x) e t h = rw (made_of_one (SAssign p x) (built_expr texts e) t h).1 refl
 
 sure_of_print : (texts sure : List Name) (p : Place) (call : Option (Place × whole.Expr)) (t : Stmt)
     → built_print texts p call ≡ Some t → sure_after t sure ≡ sure
-sure_of_print texts sure p None t h = absurd (none_is t h)
+sure_of_print texts sure p None t h = absurd (none-some t h)
 sure_of_print texts sure p (Some call) t h = rw (made_of_one (SPrint p call.0) (built_expr texts call.1) t h).1 refl
 
 sure_alike : (texts sure : List Name) (s : whole.Stmt) (t : Stmt) → built_stmt texts s ≡ Some t → sure_after t sure ≡ sure_behind texts s sure
@@ -251,7 +237,7 @@ sure_alike texts sure (whole.SExpr p e) t h = sure_of_print texts sure p (printe
 sure_alike texts sure (whole.SIf p e body other) t h =
     rw (made_of_three (SIf p) (built_condition texts e) (built_body texts body) (built_body texts other) t h).3 refl
 sure_alike texts sure (whole.SWhile p e body) t h = rw (made_of_two (SWhile p) (built_condition texts e) (built_body texts body) t h).2 refl
-sure_alike texts sure _ t h = absurd (none_is t h)
+sure_alike texts sure _ t h = absurd (none-some t h)
 
 body_agrees : (texts sure : List Name) (tree : whole.Body) → Agrees (are_reads_sure sure) (unbuilt texts sure tree) (built_body texts tree)
 body_agrees texts sure whole.no_stmts = (λ k. (none, refl, refl), λ k. refl)

@@ -16,7 +16,7 @@ known : (v w : Parts) (es : List Entry) (events : List Event) (r : Effect) → S
     → after_all events (Some (outlines_of v)) ≡ Some (outlines_of w) → Keeps v w r
 known v w es events r e p q = let is : effect es events ≡ r = cc in subst (Keeps v w) is (p, q)
 
-no_effect : {A : Type 0} {r : Effect} → None ≡ Some r → A
+pub no_effect : {A : Type 0} {r : Effect} → None ≡ Some r → A
 no_effect e = absurd (cc)
 
 chosen : (b : Bool) (x r : Effect) → b ≡ true → (if b then Some x else None) ≡ Some r → Some x ≡ Some r

@@ -1,7 +1,9 @@
 -- The first place that is kept on the way is the first of all that lie too deep.
 use Rattle.std.proofs.Common.{◌≡◌, ℕ, zero, suc, ◌<◌, ◌≤◌, max, Bool, true, false, nat_lt, if◌then◌else◌, List, [], ◌∷◌, Option, Some, None, ◌⊎◌, inl, inr, refl, sym, ◌∙◌, subst, arith}
+use Rattle.std.proofs.lemmas.Option.{same_Some}
 use Rattle.py_tokens.specs.Token.{Place}
 use Rattle.py_tokens.specs.Places.{is_before}
+use Rattle.py_tokens.proofs.PlacesOrdered.{before_neither}
 use Rattle.py_syntax.specs.Heights.{most_ancestors}
 use Rattle.py_syntax.specs.Tree.{Body}
 use Rattle.py_nesting.specs.Depths.{here, body_depth}
@@ -9,6 +11,7 @@ use Rattle.py_nesting.specs.TooDeep.{same_place, IsTooDeepAt}
 use Rattle.py_nesting.specs.Outlines.{Event, outline_depth, built}
 use Rattle.py_nesting.specs.TreeOutlines.{body_outline}
 use Rattle.py_nesting.specs.Walk.{Whole, Met, raise, walk, met_depth}
+use Rattle.py_nesting.proofs.Fits.{itself}
 use Rattle.py_nesting.proofs.OutlinesCount.{outline_law}
 use Rattle.py_nesting.proofs.WalkCounts.{walk_counts}
 use Rattle.py_nesting.specs.First.{earlier, first_of, first_in, IsFirst, FirstLaw}
@@ -16,9 +19,6 @@ use Rattle.py_nesting.specs.First.{earlier, first_of, first_in, IsFirst, FirstLa
 -- too many nodes stand above one that is met here
 abbrev IsDeepAmong : List Met → Place → Type 0
 IsDeepAmong nodes p = suc most_ancestors < met_depth (same_place p) nodes
-
-same : (p : Place) → same_place p p ≡ true
-same p = grind arith
 
 not_before_itself : (p : Place) → is_before p p ≡ false
 not_before_itself p = grind arith
@@ -28,7 +28,7 @@ as_before p q r h = grind arith
 
 -- one node of those that are met
 deep_first : (x : Met) (nodes : List Met) → nat_lt most_ancestors x.above ≡ true → IsDeepAmong (x ∷ nodes) x.place
-deep_first x nodes h = rw (same x.place) (let k : 100 < x.above = grind arith in omega arith)
+deep_first x nodes h = rw (itself x.place) (let k : 100 < x.above = grind arith in omega arith)
 
 deep_later : (x : Met) (nodes : List Met) (p : Place) → IsDeepAmong nodes p → IsDeepAmong (x ∷ nodes) p
 deep_later x nodes p h = omega arith
@@ -52,20 +52,14 @@ abbrev IsLeast : Option Place → List Met → Place → Type 0
 IsLeast first nodes p =
     ((first ≡ Some p) ⊎ IsDeepAmong nodes p) × ((q : Place) → first ≡ Some q → is_before q p ≡ false) × ((q : Place) → IsDeepAmong nodes q → is_before q p ≡ false)
 
-before_neither : (p q r : Place) → is_before r q ≡ false → is_before q p ≡ false → is_before r p ≡ false
-before_neither p q r h k = grind arith
-
 before_not : (p q r : Place) → is_before r q ≡ true → is_before r p ≡ false → is_before q p ≡ false
 before_not p q r h k = grind arith
-
-known : (q p : Place) → Some q ≡ Some p → q ≡ p
-known q p e = cc
 
 -- a node that lies too deep
 first_with : (first : Option Place) (x : Met) (nodes : List Met) (p : Place) → nat_lt most_ancestors x.above ≡ true
     → IsLeast (Some (earlier first x.place)) nodes p → IsLeast first (x ∷ nodes) p
 first_with None x nodes p deep h = (
-  either (λ e. inr (subst (IsDeepAmong (x ∷ nodes)) (known x.place p e) (deep_first x nodes deep))) (λ e. inr (deep_later x nodes p e)) h.0,
+  either (λ e. inr (subst (IsDeepAmong (x ∷ nodes)) (same_Some x.place p e) (deep_first x nodes deep))) (λ e. inr (deep_later x nodes p e)) h.0,
   (λ q e. absurd (cc)),
   λ q e. either (λ s. as_before p q x.place s.0 ∙ h.1 x.place refl) (λ d. h.2 q d) (one_of x nodes q e),
 )
@@ -73,8 +67,8 @@ first_with (Some r) x nodes p deep h = go (is_before x.place r) refl h
   where
     go : (b : Bool) → is_before x.place r ≡ b → IsLeast (Some (if b then x.place else r)) nodes p → IsLeast (Some r) (x ∷ nodes) p
     go true e h = (
-      either (λ k. inr (subst (IsDeepAmong (x ∷ nodes)) (known x.place p k) (deep_first x nodes deep))) (λ k. inr (deep_later x nodes p k)) h.0,
-      (λ q k. subst (λ (z : Place). is_before z p ≡ false) (known r q k) (before_not p r x.place e (h.1 x.place refl))),
+      either (λ k. inr (subst (IsDeepAmong (x ∷ nodes)) (same_Some x.place p k) (deep_first x nodes deep))) (λ k. inr (deep_later x nodes p k)) h.0,
+      (λ q k. subst (λ (z : Place). is_before z p ≡ false) (same_Some r q k) (before_not p r x.place e (h.1 x.place refl))),
       λ q k. either (λ s. as_before p q x.place s.0 ∙ h.1 x.place refl) (λ d. h.2 q d) (one_of x nodes q k),
     )
     go false e h = (
@@ -92,7 +86,7 @@ first_without first x nodes p few h = (
 )
 
 is_least : (nodes : List Met) (first : Option Place) (p : Place) → first_of first nodes ≡ Some p → IsLeast first nodes p
-is_least [] first p e = (inl e, (λ q f. subst (λ (z : Place). is_before z p ≡ false) (known p q (sym e ∙ f)) (not_before_itself p)), λ q h. absurd (omega arith))
+is_least [] first p e = (inl e, (λ q f. subst (λ (z : Place). is_before z p ≡ false) (same_Some p q (sym e ∙ f)) (not_before_itself p)), λ q h. absurd (omega arith))
 is_least (x ∷ nodes) first p e = go (nat_lt most_ancestors x.above) refl e (λ o k. is_least nodes o p k)
   where
     go : (b : Bool) → nat_lt most_ancestors x.above ≡ b → first_of (if b then Some (earlier first x.place) else first) nodes ≡ Some p
@@ -112,11 +106,11 @@ none_found (x ∷ nodes) first e = go (nat_lt most_ancestors x.above) refl e (λ
       λ q h. either (λ s. absurd (let no : true ≡ false = sym s.1 ∙ k in cc)) (λ d. (again first e).1 q d) (one_of x nodes q h),
     )
 
-from_the_top : (n : ℕ) → raise 0 n ≡ n
+pub from_the_top : (n : ℕ) → raise 0 n ≡ n
 from_the_top zero = refl
 from_the_top (suc n) = omega arith
 
-depths_met : (events : List Event) (body : Body) (at : Place → Bool) → built events ≡ Some (body_outline body ∷ []) → met_depth at (walk events (Whole 0 ∷ [])) ≡ body_depth at body
+pub depths_met : (events : List Event) (body : Body) (at : Place → Bool) → built events ≡ Some (body_outline body ∷ []) → met_depth at (walk events (Whole 0 ∷ [])) ≡ body_depth at body
 depths_met events body at b =
     let top : max (raise 0 (outline_depth at (body_outline body))) 0 ≡ met_depth at (walk events (Whole 0 ∷ [])) = walk_counts at events (body_outline body ∷ []) (Whole 0 ∷ []) b in
     let same : raise 0 (outline_depth at (body_outline body)) ≡ outline_depth at (body_outline body) = from_the_top (outline_depth at (body_outline body)) in

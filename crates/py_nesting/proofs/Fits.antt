@@ -17,7 +17,7 @@ here_low : (b : Bool) → here b ≤ 1
 here_low true = omega arith
 here_low false = omega arith
 
-itself : (p : Place) → same_place p p ≡ true
+pub itself : (p : Place) → same_place p p ≡ true
 itself p = rw (eq-eqb p.«module» p.«module» refl, eq-eqb p.line p.line refl, eq-eqb p.column p.column refl) refl
 
 here_itself : (p : Place) → here (same_place p p) ≡ 1

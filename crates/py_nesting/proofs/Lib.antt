@@ -3,6 +3,7 @@ pub mod ShallowModules
 pub mod DepthVectors
 pub mod OutlinesCount
 pub mod FormsAgree
+pub mod EventsAdded
 pub mod EffectsKept
 pub mod WalkCounts
 pub mod FirstFound

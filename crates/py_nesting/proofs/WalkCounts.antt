@@ -107,7 +107,7 @@ taken_asked at zero os more t d ds e =
 taken_asked at (suc n) [] more t d ds e = absurd (cc)
 taken_asked at (suc n) (o ∷ os) more t d ds e = let f = taken_asked at n os (more_below o more) t d ds e in omega arith
 
-nothing_asked : (at : Place → Bool) (os : List Outline) → depth_of at os [] ≡ 0
+pub nothing_asked : (at : Place → Bool) (os : List Outline) → depth_of at os [] ≡ 0
 nothing_asked at [] = refl
 nothing_asked at (o ∷ os) = refl
 
@@ -199,7 +199,7 @@ met_more : (at : Place → Bool) (p : Place) (d : Option ℕ) (nodes : List Met)
 met_more at p None nodes = omega arith
 met_more at p (Some d) nodes = omega arith
 
-brought_more : (at : Place → Bool) (e : Event) (ds : List Demand) (nodes : List Met) → met_depth at (brought e ds nodes) ≡ max (met_depth at (brought e ds [])) (met_depth at nodes)
+pub brought_more : (at : Place → Bool) (e : Event) (ds : List Demand) (nodes : List Met) → met_depth at (brought e ds nodes) ≡ max (met_depth at (brought e ds [])) (met_depth at nodes)
 brought_more at (Over l p n) [] nodes = omega arith
 brought_more at (Over l p n) (d ∷ ds) nodes = met_more at p (comes l d) nodes
 brought_more at Loosen ds nodes = omega arith

@@ -12,7 +12,8 @@ use Rattle.py_syntax.specs.Table.{ExpressionList, SmallTail, AssignTail, AnyName
 use Rattle.py_syntax.proofs.TakenSteps.{take, take_guarded, read, perform, with_tokens, with_parts, read_name}
 use Rattle.py_syntax.proofs.LevelsDerived.{Leads}
 use Rattle.py_syntax.proofs.ExpressionsDerived.{everywhere, spelt}
-use Rattle.py_syntax.proofs.TargetsDerived.{starts, same_place, is_target, are_targets, AsTarget, AsTargets, target_spelt, targets_spelt}
+use Rattle.py_syntax.proofs.Starts.{starts}
+use Rattle.py_syntax.proofs.TargetsDerived.{same_place, is_target, are_targets, AsTarget, AsTargets, target_spelt, targets_spelt}
 
 -- targets are added where there are some
 targets_added : (e : Expr) (t : Targets) (p : Place) (done : List Targets) (equals : Token) (v : Parts) → targets_of e ≡ Some t

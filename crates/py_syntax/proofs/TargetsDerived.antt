@@ -1,45 +1,10 @@
--- What stands before `=` is spelt as an expression, which turns out to be targets; and where an expression begins.
+-- What stands before `=` is spelt as an expression, which turns out to be targets.
 use Rattle.std.proofs.Common.{◌≡◌, ℕ, true, List, [], ◌∷◌, codes, Some, None, ◌⊎◌, inl, inr, refl, sym, ap, arith}
 use Rattle.py_tokens.specs.Token.{Place}
-use Rattle.py_syntax.specs.Token.{TName, TKeyword, TOperator, TNumber, TText, Token, At}
-use Rattle.py_syntax.specs.Tree.{Expr, EName, ENumber, EText, ETrue, EFalse, ENone, EParenthesis, EEmptyTuple, ETuple, EList, EListComprehension, EDict, ESet, EAttribute, ECall, ESubscript, ESlice, EUnary, EBinary, ECompare, ENot, EAnd, EOr, EConditional, Exprs, no_exprs, more_exprs, no_loops, more_loops, Target, TargetName, TargetAttribute, TargetSubscript, Targets, OneTarget, SomeTargets, ParenthesisTargets, BracketTargets}
-use Rattle.py_syntax.specs.Build.{Parts, PExpr, start_of, target_of, target_list_of, targets_of, are_targets_last, is_target_last}
-use Rattle.py_syntax.specs.Grammar.{sign, left_level, unary_sign, IsExpr, AreItems, IsTarget, AreTargets, IsTargets, BeginsAt}
-
-mutual
-  -- an expression begins with its first token
-  pub starts : (l : ℕ) (e : Expr) (ts rest : List Token) → IsExpr l e ts rest → BeginsAt (start_of e) ts
-  starts l (EName p x) ts rest h = (TName h.0 x, rest, h.1)
-  starts l (ENumber p n) ts rest h = (TNumber n, rest, h)
-  starts l (EText p t) ts rest h = (TText t, rest, h)
-  starts l (ETrue p) ts rest h = (TKeyword (codes "True"), rest, h)
-  starts l (EFalse p) ts rest h = (TKeyword (codes "False"), rest, h)
-  starts l (ENone p) ts rest h = (TKeyword (codes "None"), rest, h)
-  starts l (EParenthesis p e) ts rest h = (TOperator (codes "("), h.1, h.2)
-  starts l (EEmptyTuple p) ts rest h = (TOperator (codes "("), _, h.1)
-  starts l (ETuple p no_exprs) ts rest h = absurd h
-  starts l (ETuple p (more_exprs e es)) ts rest h = starts 1 e ts _ h.2
-  starts l (EList p None no_exprs) ts rest h = (TOperator (codes "["), _, h.1)
-  starts l (EList p None (more_exprs e no_exprs)) ts rest h = (TOperator (codes "["), h.1, h.2)
-  starts l (EList p None (more_exprs e (more_exprs f es))) ts rest h = absurd h
-  starts l (EList p (Some c) no_exprs) ts rest h = absurd h
-  starts l (EList p (Some c) (more_exprs e es)) ts rest h = (TOperator (codes "["), h.1, h.3)
-  starts l (EListComprehension p e no_loops) ts rest h = absurd h
-  starts l (EListComprehension p e (more_loops f t i cs loops)) ts rest h = (TOperator (codes "["), h.1, h.3)
-  starts l (EDict p pairs) ts rest h = (TOperator (codes "{"), h.1, h.2)
-  starts l (ESet p no_exprs) ts rest h = absurd h
-  starts l (ESet p (more_exprs e es)) ts rest h = (TOperator (codes "{"), h.1, h.2)
-  starts l (EAttribute p e x) ts rest h = starts 14 e ts _ h.1
-  starts l (ECall p e es ks) ts rest h = starts 14 e ts _ h.2
-  starts l (ESubscript p e i) ts rest h = starts 14 e ts _ h.2
-  starts l (ESlice p e i u) ts rest h = starts 14 e ts _ h.4
-  starts l (EUnary p o e) ts rest h = (TOperator (unary_sign o), h.1, h.2)
-  starts l (EBinary p o a b) ts rest h = starts (left_level o) a ts _ h.2
-  starts l (ECompare p o a b links) ts rest h = starts 6 a ts _ h.4
-  starts l (ENot p e) ts rest h = (TKeyword (codes "not"), h.1, h.2)
-  starts l (EAnd p a b es) ts rest h = starts 4 a ts _ h.3
-  starts l (EOr p a b es) ts rest h = starts 3 a ts _ h.3
-  starts l (EConditional p a t b) ts rest h = starts 2 a ts _ h.4
+use Rattle.py_syntax.specs.Token.{Token, At}
+use Rattle.py_syntax.specs.Tree.{Expr, EName, EParenthesis, ETuple, EList, EAttribute, ESubscript, Exprs, no_exprs, more_exprs, Target, TargetName, TargetAttribute, TargetSubscript, Targets, OneTarget, SomeTargets, ParenthesisTargets, BracketTargets}
+use Rattle.py_syntax.specs.Build.{Parts, PExpr, target_of, target_list_of, targets_of, are_targets_last, is_target_last}
+use Rattle.py_syntax.specs.Grammar.{sign, IsExpr, AreItems, IsTarget, AreTargets, IsTargets, BeginsAt}
 
 pub same_place : {p q : Place} {ts : List Token} → BeginsAt p ts → BeginsAt q ts → p ≡ q
 same_place {p} {q} {ts} a b = let one : ts ≡ At p a.0 ∷ a.1 = a.2 in let other : ts ≡ At q b.0 ∷ b.1 = b.2 in (cc)

@@ -1,14 +1,12 @@
 -- An expression that turns out to be targets is spelt as targets.
 use Rattle.std.proofs.Common.{◌≡◌, ℕ, List, [], ◌∷◌, codes, inl, inr, refl, ap, ◌∙◌, subst, arith, Option, Some, None}
+use Rattle.std.proofs.lemmas.Option.{same_Some}
 use Rattle.py_tokens.specs.Token.{Place}
 use Rattle.py_syntax.specs.Token.{Token}
 use Rattle.py_syntax.specs.Tree.{Expr, EName, EParenthesis, ETuple, EList, EAttribute, ESubscript, Exprs, no_exprs, more_exprs, Target, Targets, SomeTargets, ParenthesisTargets, BracketTargets}
 use Rattle.py_syntax.specs.Build.{target_of, one_more, target_list_of, in_brackets, some_targets, targets_of}
 use Rattle.py_syntax.specs.Grammar.{sign, IsEndOrComma, IsExpr, AreItems, IsTarget, AreTargets, IsTargets}
 use Rattle.py_syntax.proofs.KeptSteps.{looser}
-
-found_is : {A : Type 0} {a b : A} → Some a ≡ Some b → a ≡ b
-found_is h = (cc)
 
 -- what a value that was found was made of
 bracketed_is : (f : Targets → Targets) (o : Option Targets) (t : Targets) → in_brackets f o ≡ Some t → (inner : Targets) × (o ≡ Some inner) × (f inner ≡ t)
@@ -26,13 +24,13 @@ more_is (Some first) None targets h = absurd (cc)
 more_is (Some first) (Some others) targets h = (first, others, refl, refl, (cc))
 
 pub target_spelt : (l : ℕ) (e : Expr) (t : Target) (ts rest : List Token) → target_of e ≡ Some t → IsExpr l e ts rest → IsTarget t ts rest
-target_spelt l (EName p x) t ts rest is h = subst (λ (t : Target). IsTarget t ts rest) (found_is is) h
-target_spelt l (EAttribute p e x) t ts rest is h = subst (λ (t : Target). IsTarget t ts rest) (found_is is) h
-target_spelt l (ESubscript p e i) t ts rest is h = subst (λ (t : Target). IsTarget t ts rest) (found_is is) h
+target_spelt l (EName p x) t ts rest is h = subst (λ (t : Target). IsTarget t ts rest) (same_Some _ _ is) h
+target_spelt l (EAttribute p e x) t ts rest is h = subst (λ (t : Target). IsTarget t ts rest) (same_Some _ _ is) h
+target_spelt l (ESubscript p e i) t ts rest is h = subst (λ (t : Target). IsTarget t ts rest) (same_Some _ _ is) h
 target_spelt l _ t ts rest is h = absurd (cc)
 
 target_list_spelt : (es : Exprs) (targets : List Target) (ts rest : List Token) → target_list_of es ≡ Some targets → AreItems es ts rest → AreTargets targets ts rest
-target_list_spelt no_exprs targets ts rest is h = subst (λ (targets : List Target). AreTargets targets ts rest) (found_is is) h
+target_list_spelt no_exprs targets ts rest is h = subst (λ (targets : List Target). AreTargets targets ts rest) (same_Some _ _ is) h
 target_list_spelt (more_exprs e es) targets ts rest is h =
     let m = more_is (target_of e) (target_list_of es) targets is in
     subst (λ (targets : List Target). AreTargets targets ts rest) m.4
@@ -54,9 +52,9 @@ with_comma c e es t ts mid rest is first others =
     (mid, target_spelt 1 e m.0 ts (sign c (codes ",") ∷ mid) m.2 first, target_list_spelt es m.1 mid rest m.3 others)
 
 pub targets_spelt : (e : Expr) (t : Targets) (ts rest : List Token) → targets_of e ≡ Some t → IsExpr 0 e ts rest → IsTargets t ts rest
-targets_spelt (EName p x) t ts rest is h = subst (λ (t : Targets). IsTargets t ts rest) (found_is is) h
-targets_spelt (EAttribute p e x) t ts rest is h = subst (λ (t : Targets). IsTargets t ts rest) (found_is is) h
-targets_spelt (ESubscript p e i) t ts rest is h = subst (λ (t : Targets). IsTargets t ts rest) (found_is is) h
+targets_spelt (EName p x) t ts rest is h = subst (λ (t : Targets). IsTargets t ts rest) (same_Some _ _ is) h
+targets_spelt (EAttribute p e x) t ts rest is h = subst (λ (t : Targets). IsTargets t ts rest) (same_Some _ _ is) h
+targets_spelt (ESubscript p e i) t ts rest is h = subst (λ (t : Targets). IsTargets t ts rest) (same_Some _ _ is) h
 targets_spelt (ETuple p no_exprs) t ts rest is h = absurd h
 targets_spelt (ETuple p (more_exprs e es)) t ts rest is h = with_comma p e es t ts h.1 rest is h.2 h.3
 targets_spelt (EParenthesis p e) t ts rest is h =

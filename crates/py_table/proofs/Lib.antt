@@ -1,4 +1,4 @@
-mod NameTexts
+pub mod NameTexts
 mod Picked
 pub mod SymbolStacks
 pub mod Turns

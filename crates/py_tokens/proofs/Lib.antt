@@ -1,3 +1,4 @@
+pub mod PlacesOrdered
 mod Notation
 mod NumberVectors
 mod TextVectors

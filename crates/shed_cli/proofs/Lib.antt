@@ -6,6 +6,5 @@ pub mod WordsRead
 pub mod Judgements
 pub mod Endings
 pub mod CausesFollow
-pub mod TokensSaid
 pub mod TokensNumbered
 pub mod SourceRead

@@ -106,7 +106,7 @@ fn push_found(said: &mut String, found: &Found, names: &Names) -> Result<(), All
 }
 
 /// A token as it is printed.
-#[tactic(auto, using(crate::proofs::TokensSaid::texts))]
+#[tactic(auto, using(py_table::proofs::NameTexts::texts))]
 fn push_token(said: &mut String, kind: &TokenKind, names: &Names) -> Result<(), AllocError>
     ensures { OnOk result (string_bytes said.new ≡ string_bytes said.old ++ token_text (plain_kind names.now kind.now)) }
 {

@@ -1,7 +1,7 @@
 use Rattle.std.proofs.Common.{◌++◌, string_bytes, sym, ap, ◌∙◌, append-nil}
 use Rattle.py_lexer.specs.PlainTokens.{plain_kind}
 use Rattle.shed_meaning.specs.TokenText.{token_text}
-use Rattle.shed_cli.proofs.TokensSaid.{no_text_there}
+use Rattle.py_table.proofs.NameTexts.{no_text_there}
 use Rattle.shed_cli.proofs.fault.push_token.Goals as goal
 
 pub returns-in-None : goal.returns-in-None
