@@ -54,7 +54,7 @@ head_kept Bracket (OpenAtLeast m) (Assigned n) h = h
 head_kept Tuple (OpenAtLeast m) (Assigned n) h = tt
 head_kept l q d h = absurd h
 
-role_kept : (role : Role) (q : Ask) (d : Demand) → AtMost q d → AtMost (ask_by q role) (asked_by d role)
+pub role_kept : (role : Role) (q : Ask) (d : Demand) → AtMost q d → AtMost (ask_by q role) (asked_by d role)
 role_kept Lost q d h = tt
 role_kept (Head l changes) q d h = head_kept l (ask_all_changed changes q) (all_changed changes d) (changes_kept changes q d h)
 role_kept (Through changes) q d h = changes_kept changes q d h
@@ -90,7 +90,7 @@ below_so zero n h = omega arith
 below_so (suc m) zero h = absurd (cc)
 below_so (suc m) (suc n) h = let l : m ≤ n = below_so m n h in omega arith
 
-no_more_so : (q r : Ask) (d : Demand) → asks_no_more q r ≡ true → AtMost r d → AtMost q d
+pub no_more_so : (q r : Ask) (d : Demand) → asks_no_more q r ≡ true → AtMost r d → AtMost q d
 no_more_so q r Nothing h k = tt
 no_more_so (AtLeast m) (AtLeast n) (Whole k) h l = let b : m ≤ n = below_so m n h in omega arith
 no_more_so (WithinAtLeast m) (WithinAtLeast n) (Inside k) h l = let b : m ≤ n = below_so m n h in omega arith

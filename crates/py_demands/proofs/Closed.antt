@@ -1,5 +1,5 @@
 -- Symbols can be closed by tokens at one place, and then ask just what the rows that close them ask.
-use Rattle.std.proofs.Common.{nat_lt, ◌==◌, ◌≡◌, ℕ, ◌+◌, ◌≤◌, Bool, true, false, not, List, [], ◌∷◌, ◌++◌, length, Option, Some, None, refl, sym, ap, ◌∙◌, subst, arith}
+use Rattle.std.proofs.Common.{nat_lt, ◌==◌, ◌≡◌, ℕ, ◌≤◌, Bool, true, false, not, List, [], ◌∷◌, ◌++◌, length, Option, Some, None, refl, sym, ap, ◌∙◌, subst, arith}
 use Rattle.grammars.specs.Grammar.{Tok, Non, Do}
 use Rattle.grammars.specs.Derivation.{Yields}
 use Rattle.grammars.specs.Sets.{Sets, are_below, have_specimens}
@@ -55,10 +55,10 @@ exact_is Drop ds us e = sym (same_Some (Nothing ∷ ds) us e)
 exact_is a [] us e = absurd (cc)
 exact_is a (d ∷ ds) us e = sym (same_Some _ us e)
 
-nothing_leads : (p : Place) (v : Parts) → Leads p [] v v
+pub nothing_leads : (p : Place) (v : Parts) → Leads p [] v v
 nothing_leads p v more events f b g = (f, (events, b), g, λ ds us m e. let same : ds ≡ us = same_Some ds us e in subst (λ (x : List Demand). (length x ≡ length (entries_of v)) × ((at : Place → Bool) → Same at p v ds v x)) same (m, λ at. ((omega arith), λ h. omega arith)))
 
-token_leads : (p : Place) (k : ℕ) (symbols : List Symbol) (v w : Parts) → kind_of (At p (kind_at k)) ≡ k → Leads p symbols (PToken (At p (kind_at k)) ∷ v) w → Leads p (Tok k ∷ symbols) v w
+pub token_leads : (p : Place) (k : ℕ) (symbols : List Symbol) (v w : Parts) → kind_of (At p (kind_at k)) ≡ k → Leads p symbols (PToken (At p (kind_at k)) ∷ v) w → Leads p (Tok k ∷ symbols) v w
 token_leads p k symbols v w kind l more events f b g =
     let t : Token = At p (kind_at k) in
     let r = l more events (f (entry_of (PToken t)) (subst (λ (m : ℕ). fits (token_kind m) (entry_of (PToken t)) ≡ true) kind (token_fits_so t))) b (tt, g) in
@@ -76,7 +76,7 @@ token_leads p k symbols v w kind l more events f b g =
         subst (λ (x : List Demand). (length x ≡ length (entries_of v)) × ((at : Place → Bool) → Same at p w ds v x)) same
         ((let n = s.0 in omega arith), λ at. ((let n = (s.1 at).0 in omega arith), λ h. (let n = (s.1 at).1 h in let none = token_avoided at d (At p (kind_at k)) h in omega arith)))
 
-action_leads : (p : Place) (a : Action) (symbols : List Symbol) (v w : Parts) → Leads p symbols (act a v) w → Leads p (Do a ∷ symbols) v w
+pub action_leads : (p : Place) (a : Action) (symbols : List Symbol) (v w : Parts) → Leads p symbols (act a v) w → Leads p (Do a ∷ symbols) v w
 action_leads p a symbols v w l more events f b g =
     let kept = effects_kept a v (effect f.0 f.1) f.2 in
     let put : built (f.1 ++ events) ≡ Some (outlines_of (act a v)) = built_more f.1 events ∙ ap (after_all f.1) b ∙ kept.1 in
@@ -100,7 +100,7 @@ action_leads p a symbols v w l more events f b g =
           ),
         )
 
-rows_lead : (p : Place) (x : Nonterminal) (symbols : List Symbol) (v u w : Parts) → Leads p (closing x) v u → Leads p symbols u w → Leads p (Non x ∷ symbols) v w
+pub rows_lead : (p : Place) (x : Nonterminal) (symbols : List Symbol) (v u w : Parts) → Leads p (closing x) v u → Leads p symbols u w → Leads p (Non x ∷ symbols) v w
 rows_lead p x symbols v u w l k more events f b g =
     let fit : Fit (closing x ++ (symbols ++ more)) (entries_of v) = row_fits x (row (closing x)) v (symbols ++ more) (is_row x) refl f.0 f.1 in
     let r = l (symbols ++ more) events fit b g in
@@ -121,11 +121,11 @@ rows_lead p x symbols v u w l k more events f b g =
         (front.0, λ at. ((let n = (behind.1 at).0 in let i = (front.1 at).0 in omega arith), λ h. (let n = (behind.1 at).1 h in let i = (front.1 at).1 h in omega arith)))
 
 -- tokens at p
-abbrev sets_at : Place → Sets Nonterminal Token
+abbrev pub sets_at : Place → Sets Nonterminal Token
 sets_at p = record { nullable = sets.nullable; first = sets.first; follow = sets.follow; rank = sets.rank; specimen = λ k. At p (kind_at k) }
 
 -- which place it is makes no difference
-anywhere : (p : Place) (symbols : List Symbol) → have_specimens table sets symbols ≡ true → have_specimens table (sets_at p) symbols ≡ true
+pub anywhere : (p : Place) (symbols : List Symbol) → have_specimens table sets symbols ≡ true → have_specimens table (sets_at p) symbols ≡ true
 anywhere p [] h = refl
 anywhere p (Tok k ∷ symbols) h = both (kind_of (At p (kind_at k)) == k) _ (and_left _ _ h) (anywhere p symbols (and_right _ _ h))
 anywhere p (Non x ∷ symbols) h = anywhere p symbols h

@@ -51,7 +51,7 @@ exactly_frame (s ∷ symbols) ds us cs e = go (exactly symbols (Some ds)) refl e
     go None o h again = absurd (cc)
     go (Some rs) o h again = ap (exactly_before s) (again rs o) ∙ symbol_frame s rs us cs h
 
-exactly_joined : (these symbols : List Symbol) (o : Option (List Demand)) → exactly (these ++ symbols) o ≡ exactly these (exactly symbols o)
+pub exactly_joined : (these symbols : List Symbol) (o : Option (List Demand)) → exactly (these ++ symbols) o ≡ exactly these (exactly symbols o)
 exactly_joined [] symbols o = refl
 exactly_joined (s ∷ these) symbols o = ap (exactly_before s) (exactly_joined these symbols o)
 

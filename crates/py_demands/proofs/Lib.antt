@@ -2,13 +2,26 @@ mod EffectsTied
 mod RowsLow
 mod AsksKept
 mod LowRows
+mod RowsAimed
 mod StartsBelow
+mod Made
+mod Turned
+mod AimsKept
+mod AimRows
 mod Bounded
 mod Lower
+mod Items
 mod RowsClose
 mod Closed
 mod Ways
+mod Turning
 mod Ordered
 mod ExactRows
 pub mod Steps
+mod ItemSteps
 mod Agreed
+mod Decided
+mod Paired
+mod TurnedPaired
+mod DemandVectors
+mod TargetVectors

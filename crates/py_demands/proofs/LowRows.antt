@@ -14,7 +14,7 @@ use Rattle.std.proofs.lemmas.Option.{same_Some}
 use Rattle.py_demands.proofs.RowsLow.{no_more, row_is_low, rows_are_low, all_low}
 
 -- one more above
-abbrev more : Ask → Ask
+abbrev pub more : Ask → Ask
 more NoNode = NoNode
 more (AtLeast n) = AtLeast (suc n)
 more (WithinAtLeast n) = WithinAtLeast (suc n)
@@ -50,12 +50,12 @@ head_more (AtLeast n) = refl
 head_more (WithinAtLeast n) = refl
 head_more (OpenAtLeast n) = refl
 
-role_more : (q : Ask) (role : Role) → ask_by (more q) role ≡ more (ask_by q role)
+pub role_more : (q : Ask) (role : Role) → ask_by (more q) role ≡ more (ask_by q role)
 role_more q Lost = refl
 role_more q (Head l changes) = ap ask_head (changes_more changes q) ∙ head_more (ask_all_changed changes q)
 role_more q (Through changes) = changes_more changes q
 
-least_more : (q : Ask) (l : Least) → ask_least (more q) l ≡ more (ask_least q l)
+pub least_more : (q : Ask) (l : Least) → ask_least (more q) l ≡ more (ask_least q l)
 least_more q (As role) = role_more q role
 least_more NoNode Opened = refl
 least_more (AtLeast n) Opened = refl
@@ -104,7 +104,7 @@ all_least_more : (symbols : List Symbol) (o : Option (List Ask)) → least symbo
 all_least_more [] o = refl
 all_least_more (s ∷ symbols) o = ap (before s) (all_least_more symbols o) ∙ before_more s (least symbols o)
 
-may_more : (x : Nonterminal) (q : Ask) → may_ask x (more q) ≡ may_ask x q
+pub may_more : (x : Nonterminal) (q : Ask) → may_ask x (more q) ≡ may_ask x q
 may_more x NoNode = refl
 may_more x (AtLeast n) = refl
 may_more x (WithinAtLeast n) = refl
@@ -124,7 +124,7 @@ askable_more (Non x ∷ symbols) o =
     ∙ ap (λ (b : Bool). b && are_askable symbols (all_more o)) (may_first_more x (least symbols o))
     ∙ ap (λ (b : Bool). may_ask_first x (least symbols o) && b) (askable_more symbols o)
 
-no_more_more : (q r : Ask) → asks_no_more q r ≡ true → asks_no_more (more q) (more r) ≡ true
+pub no_more_more : (q r : Ask) → asks_no_more q r ≡ true → asks_no_more (more q) (more r) ≡ true
 no_more_more q NoNode h = refl
 no_more_more (AtLeast m) (AtLeast n) h = h
 no_more_more (WithinAtLeast m) (WithinAtLeast n) h = h
@@ -147,7 +147,7 @@ pub record IsLow (x : Nonterminal) (q : Ask) (symbols : List Symbol) : Type 0 wh
   pub no_more_is : ask_no_more (map (ask_least q) (low x)) asks ≡ true
   pub askable : are_askable symbols (Some (q ∷ [])) ≡ true
 
-low_so : (x : Nonterminal) (q : Ask) (r : Row Nonterminal Action Parts) → row_is_low x q r ≡ true → IsLow x q r.symbols
+pub low_so : (x : Nonterminal) (q : Ask) (r : Row Nonterminal Action Parts) → row_is_low x q r ≡ true → IsLow x q r.symbols
 low_so x q r h = go (least r.symbols (Some (q ∷ []))) refl (and_left _ _ h)
   where
     go : (o : Option (List Ask)) → least r.symbols (Some (q ∷ [])) ≡ o → no_more (map (ask_least q) (low x)) o ≡ true → IsLow x q r.symbols

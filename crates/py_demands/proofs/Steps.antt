@@ -43,7 +43,7 @@ behind_at_beginning front =
     }
 
 -- what is asked at least behind the first symbol
-asks_behind : (s : Symbol) (symbols : List Symbol) (o : Option (List Ask)) (qs : List Ask) → least (s ∷ symbols) o ≡ Some qs → (rs : List Ask) × (least symbols o ≡ Some rs)
+pub asks_behind : (s : Symbol) (symbols : List Symbol) (o : Option (List Ask)) (qs : List Ask) → least (s ∷ symbols) o ≡ Some qs → (rs : List Ask) × (least symbols o ≡ Some rs)
 asks_behind s symbols o qs e = go (least symbols o) refl e
   where
     go : (w : Option (List Ask)) → least symbols o ≡ w → before s w ≡ Some qs → (rs : List Ask) × (least symbols o ≡ Some rs)

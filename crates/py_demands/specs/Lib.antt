@@ -8,3 +8,11 @@ pub mod Behind
 pub mod Order
 pub mod Steps
 pub mod Agreed
+pub mod Turned
+pub mod Turning
+pub mod Aims
+pub mod Aimed
+pub mod Decided
+pub mod Paired
+pub mod ItemSteps
+pub mod TurnedPaired
