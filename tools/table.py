@@ -83,7 +83,7 @@ def read_grammar():
 END = -1
 
 
-def sets_of(grammar):
+def sets_of(grammar, quiet=False):
     nullable = {x: False for x in grammar}
     first = {x: set() for x in grammar}
     follow = {x: set() for x in grammar}
@@ -116,7 +116,7 @@ def sets_of(grammar):
         taken = {}
         for i, (_, symbols) in enumerate(rows):
             for s in begins(symbols, follow[x]):
-                if s in taken:
+                if s in taken and not quiet:
                     print(f"conflict in {x} at {s}: rows {taken[s]} and {i}", file=sys.stderr)
                 taken[s] = i
     rank = {}
@@ -299,7 +299,7 @@ def write_rust(grammar, follow, begins):
 
     out = [f"""//! What rows are made of. {HEADER}
 
-use crate::operator::{{BinaryOperator, ComparisonOperator, UnaryOperator}};
+use py_ast::{{BinaryOperator, ComparisonOperator, UnaryOperator}};
 
 /// What symbols stand for.
 #[derive(Clone, Copy, Debug, PartialEq, Eq)]
@@ -362,7 +362,7 @@ pub struct Row {
             ("crate::symbol::Symbol", [k for k in used if used[k]]),
             ("crate::symbol", ["Guard", "Row"]),
             ("crate::kind_numbers", used["Read"]),
-            ("crate::operator", operators),
+            ("py_ast", operators),
         ]
         head = f"//! The rows of {title}. {HEADER}\n\n" + "".join(f"use {path}::{{{', '.join(used_names)}}};\n" for path, used_names in imports if used_names)
         (source / f"{module}.rt").write_text(head + text)
@@ -378,7 +378,7 @@ use crate::symbol::{{Nonterminal, Row}};
     out += [f"use crate::{module};\n" for module, _, _ in ROW_FILES]
     out.append("""
 /// The rows of a nonterminal.
-pub(crate) fn rows_of(nonterminal: Nonterminal) -> &'static [Row]
+pub fn rows_of(nonterminal: Nonterminal) -> &'static [Row]
     ensures { map plain_row result.now ≡ rows (plain_nonterminal nonterminal) }
 {
     match nonterminal {

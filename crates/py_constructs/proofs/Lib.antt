@@ -1,5 +1,9 @@
-mod OwnTokens
-mod StandIns
-mod Standing
-mod Causes
-pub mod Told
+pub mod TableSets
+pub mod HeadsFollow
+pub mod ToldLater
+pub mod SharedFronts
+pub mod Standing
+pub mod Steps
+pub mod Searched
+pub mod Trial
+pub mod OnWay

@@ -1,5 +1,10 @@
 pub mod Construct
-pub mod Phrases
-pub mod StandIns
-pub mod Outside
-pub mod Trials
+pub mod Values
+pub mod Table
+pub mod Standing
+pub mod Reached
+pub mod Search
+pub mod FrontRead
+pub mod Steps
+pub mod OneStep
+pub mod Trial

@@ -1,32 +1,47 @@
-//! Constructs of Python outside the profile, and where they stand.
+//! The profile's grammar with one construct of Python added, and where that construct stands.
 //!
-//! `specs/Phrases.antt` says what a module with a construct is, and `specs/Outside.antt` where the construct stands in place of a
-//! token with which no front of a module of the profile goes on. The functions below have no body: they carry laws.
+//! `specs/Table.antt` is the grammar with each construct, `specs/Standing.antt` says where a construct stands in place of a token with
+//! which no front of a module of the profile goes on. The functions below have no body: they carry laws, by which a search that runs
+//! the table is right.
 #![tactic(auto)]
 
-ghost use Rattle.py_constructs.specs.Trials.{HereLaw, JoinedLaw, NextLaw, NoneLaw, EndLaw};
+ghost use Rattle.py_constructs.specs.Reached.{EndLaw, OnceLaw, ToldLaw, StuckLaw};
+ghost use Rattle.py_constructs.specs.OneStep.{StartLaw, StepLaw, OwnStepLaw, HaltLaw, FinishLaw, EarlyLaw};
+ghost use Rattle.py_constructs.specs.Search.{NextLaw, LastLaw};
 
-/// Where a front goes on with what stands for a phrase that begins with the first token that fits nowhere, the construct is told there.
-pub fn phrase_is_told_where_it_begins()
-    ensures law { HereLaw }
+/// A construct stands at one head at most.
+pub fn a_construct_stands_once()
+    ensures law { OnceLaw }
 {}
 
-/// Where a front goes on with what stands for a text and the formatted one behind it, which fits nowhere by itself, the latter is told.
-pub fn formatted_text_is_told_behind_a_text()
-    ensures law { JoinedLaw }
+/// It stands at the head that a run tells, once the first bad token has been read.
+pub fn a_construct_stands_where_it_is_told()
+    ensures law { ToldLaw }
 {}
 
-/// The same where the text before it is what fits nowhere.
-pub fn formatted_text_is_told_before_it_is_reached()
-    ensures law { NextLaw }
+/// It stands nowhere, where its run is stuck that has not read the first bad token or has told nothing.
+pub fn a_construct_stands_nowhere_where_its_run_is_stuck()
+    ensures law { StuckLaw }
 {}
 
-/// Where no front goes on so, no construct is told.
-pub fn nothing_is_told_where_no_front_goes_on()
-    ensures law { NoneLaw }
-{}
-
-/// Where the tokens end too early, no construct is told.
-pub fn nothing_is_told_at_the_end()
+/// So where a run has ended, it has told the head, or there is none.
+pub fn the_end_of_a_run_tells_the_head()
     ensures law { EndLaw }
+{}
+
+/// Where a run stands is known at its beginning, over each step with a construct or with none, and at its end; and once a head is
+/// told and the first bad token read, the construct stands there.
+pub fn a_run_knows_where_it_stands()
+    ensures start { StartLaw }
+    ensures step { StepLaw }
+    ensures own_step { OwnStepLaw }
+    ensures halt { HaltLaw }
+    ensures finish { FinishLaw }
+    ensures early { EarlyLaw }
+{}
+
+/// The construct whose head comes first is found by looking at one after another, in order.
+pub fn the_first_head_is_found_in_order()
+    ensures next { NextLaw }
+    ensures last { LastLaw }
 {}

@@ -1,3 +1,4 @@
+mod ConstructVectors
 mod NameVectors
 mod TableVectors
 mod WordVectors

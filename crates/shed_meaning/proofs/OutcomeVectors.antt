@@ -9,9 +9,10 @@ use Rattle.py_tokens.specs.Token.{Place, BadCharacter, TooLong, Tokens}
 use Rattle.py_tokens.specs.Tokens.{tokens_of_characters, beginning, unmarked}
 use Rattle.py_syntax.specs.Token.{Token, TFloat, TNumber}
 use Rattle.py_syntax.specs.Laws.{IsLongestFront}
-use Rattle.py_constructs.specs.Construct.{Float}
-use Rattle.py_constructs.specs.Outside.{IsTold}
-use Rattle.py_constructs.proofs.Told.{here_law, none_behind, is_plain}
+use Rattle.py_constructs.specs.Construct.{Construct, Float, constructs}
+use Rattle.py_constructs.specs.Search.{best}
+use Rattle.py_constructs.specs.Trial.{search}
+use Rattle.py_constructs.proofs.Trial.{search_law}
 use Rattle.py_nesting.specs.Outlines.{Plain, Event, Over, Gather, JoinGroup, Assign}
 use Rattle.py_nesting.proofs.FirstFound.{first_law}
 use Rattle.shed_base.specs.Files.{Files, with_file}
@@ -140,9 +141,9 @@ too_long = refused too_long_text (BadToken TooLong (at 1 5)) refl (lit≤ tt) (a
 -- where the longest front of the tokens has so many of them, the next one is said
 stuck : (k : ℕ) (text : List ℕ) (p : Place) (said : List ℕ) → is_ascii text ≡ true → tokens_of_characters W32 (beginning 0) (unmarked text) ≡ Tokens (tokens text)
     → IsLongestFront (take k (grammar_tokens (tokens text))) (drop k (grammar_tokens (tokens text)))
-    → p ≡ place_at (tokens text) (drop k (tokens text)) → said ≡ said_at (drop k (tokens text)) → length (take k (grammar_tokens (tokens text))) ≡ k
-    → is_plain (drop k (grammar_tokens (tokens text))) ≡ true → HasFault text (Unexpected p said)
-stuck k text p said a lexed longest place words many plain = (
+    → p ≡ place_at (tokens text) (drop k (tokens text)) → said ≡ said_at (drop k (tokens text))
+    → search constructs 400 (grammar_tokens (tokens text)) k None ≡ Some None → HasFault text (Unexpected p said)
+stuck k text p said a lexed longest place words none = (
   tokens text,
   ascii_tokens text a ∙ lexed,
   record {
@@ -150,7 +151,7 @@ stuck k text p said a lexed longest place words many plain = (
     longest = longest;
     place = place;
     words = words;
-    none = subst₂ (λ (ts : List Token) (n : ℕ). IsTold ts n None) (take-append-drop k (grammar_tokens (tokens text))) many (none_behind (take k (grammar_tokens (tokens text))) (drop k (grammar_tokens (tokens text))) longest plain);
+    none = search_law 400 (grammar_tokens (tokens text)) k None none;
   },
 )
 
@@ -160,7 +161,7 @@ no_value_text = codes "x = \n"
 
 no_value : Ends words (world (folder no_value_text) []) (world (folder no_value_text) (codes "main.py:1:5: P1 Unexpected NEWLINE\n")) 3
 unfolding no_value_text digits lib.Utf8.encode
-no_value = refused no_value_text (Unexpected (at 1 5) (codes "NEWLINE")) refl (lit≤ tt) (stuck 2 no_value_text _ _ refl refl (longest_front 400 2 no_value_text refl) refl refl refl refl)
+no_value = refused no_value_text (Unexpected (at 1 5) (codes "NEWLINE")) refl (lit≤ tt) (stuck 2 no_value_text _ _ refl refl (longest_front 400 2 no_value_text refl) refl refl refl)
 
 -- a branch with nothing in it: the end has the place of the last token, which is a NEWLINE
 no_block_text : List ℕ
@@ -168,7 +169,7 @@ no_block_text = codes "if 1 < 2:\n"
 
 no_block : Ends words (world (folder no_block_text) []) (world (folder no_block_text) (codes "main.py:1:10: P1 Unexpected END\n")) 3
 unfolding no_block_text digits lib.Utf8.encode
-no_block = refused no_block_text (Unexpected (at 1 10) (codes "END")) refl (lit≤ tt) (stuck 6 no_block_text _ _ refl refl (longest_front 400 6 no_block_text refl) refl refl refl refl)
+no_block = refused no_block_text (Unexpected (at 1 10) (codes "END")) refl (lit≤ tt) (stuck 6 no_block_text _ _ refl refl (longest_front 400 6 no_block_text refl) refl refl refl)
 
 -- a text behind a name is said as `repr` has it
 text_behind_text : List ℕ
@@ -176,29 +177,25 @@ text_behind_text = codes "x = 1\nx 'it\\'s'\n"
 
 text_behind : Ends words (world (folder text_behind_text) []) (world (folder text_behind_text) (codes "main.py:2:3: P1 Unexpected \"it's\"\n")) 3
 unfolding text_behind_text digits lib.Utf8.encode
-text_behind = refused text_behind_text (Unexpected (at 2 3) (codes "\"it's\"")) refl (lit≤ tt) (stuck 5 text_behind_text _ _ refl refl (longest_front 400 5 text_behind_text refl) refl refl refl refl)
+text_behind = refused text_behind_text (Unexpected (at 2 3) (codes "\"it's\"")) refl (lit≤ tt) (stuck 5 text_behind_text _ _ refl refl (longest_front 400 5 text_behind_text refl) refl refl refl)
+
+-- where a construct is found behind so many tokens, it is said in place of the next one
+found_at : (k n : ℕ) (text : List ℕ) (p : Place) (c : Construct) → is_ascii text ≡ true → tokens_of_characters W32 (beginning 0) (unmarked text) ≡ Tokens (tokens text)
+    → IsLongestFront (take k (grammar_tokens (tokens text))) (drop k (grammar_tokens (tokens text)))
+    → search constructs 400 (grammar_tokens (tokens text)) k None ≡ Some (Some (best c (record { number = n; place = p }))) → HasFault text (Outside p c)
+found_at k n text p c a lexed longest e = (
+  tokens text,
+  ascii_tokens text a ∙ lexed,
+  record { count = k; longest = longest; found = search_law 400 (grammar_tokens (tokens text)) k (Some (best c (record { number = n; place = p }))) e },
+)
 
 -- a float stands where a number may
 half_text : List ℕ
 half_text = codes "x = 1.5\n"
 
-whole_text : List ℕ
-whole_text = codes "x = 0\n"
-
 half : Ends words (world (folder half_text) []) (world (folder half_text) (codes "main.py:1:5: P2 Outside float\n")) 3
-unfolding half_text whole_text digits lib.Utf8.encode
-half =
-    refused half_text (Outside (at 1 5) Float) refl (lit≤ tt) (
-      tokens half_text,
-      ascii_tokens half_text refl ∙ refl,
-      record {
-        count = 2;
-        longest = longest_front 400 2 half_text refl;
-        told =
-            here_law Float (take 2 (grammar_tokens (tokens half_text))) (at 1 5) TFloat (drop 3 (grammar_tokens (tokens half_text))) (longest_front 400 2 half_text refl)
-            (TNumber 0, refl, (at 1 5, refl, refl, refl), (drop 3 (grammar_tokens (tokens whole_text)), tree 400 whole_text, spelt_text 400 whole_text refl));
-      },
-    )
+unfolding half_text digits lib.Utf8.encode
+half = refused half_text (Outside (at 1 5) Float) refl (lit≤ tt) (found_at 2 2 half_text (at 1 5) Float refl refl (longest_front 400 2 half_text refl) refl)
 
 -- a number below a hundred signs and their statement
 too_deep_text : List ℕ

@@ -9,7 +9,7 @@ use Rattle.py_syntax.specs.Grammar.{IsModule}
 use Rattle.py_syntax.specs.Laws.{IsLongestFront}
 use Rattle.py_nesting.specs.TooDeep.{IsFirstTooDeep}
 use Rattle.py_constructs.specs.Construct.{Construct, construct_text}
-use Rattle.py_constructs.specs.Outside.{told, IsTold}
+use Rattle.py_constructs.specs.Standing.{finding, IsFinding}
 use Rattle.py_meaning.specs.Name.{Name, text_of}
 use Rattle.py_meaning.specs.Built.{unbuilt, first_place}
 use Rattle.py_meaning.specs.Source.{IsText, grammar_tokens}
@@ -50,13 +50,13 @@ pub record IsUnexpected (ts : List Token) (p : Place) (said : List ℕ) : Type 0
   pub longest : IsLongestFront (take count (grammar_tokens ts)) (drop count (grammar_tokens ts))
   pub place : p ≡ place_at ts (drop count ts)
   pub words : said ≡ said_at (drop count ts)
-  pub none : IsTold (grammar_tokens ts) count None
+  pub none : IsFinding (grammar_tokens ts) count None
 
 -- the same with a construct in place of what is said
 pub record IsOutside (ts : List Token) (p : Place) (c : Construct) : Type 0 where
   pub count : ℕ
   pub longest : IsLongestFront (take count (grammar_tokens ts)) (drop count (grammar_tokens ts))
-  pub told : IsTold (grammar_tokens ts) count (Some (told c p))
+  pub found : IsFinding (grammar_tokens ts) count (Some (finding c p))
 
 pub record IsTooDeep (text : List ℕ) (p : Place) : Type 0 where
   pub tokens : List Token

@@ -1,0 +1,297 @@
+-- What is kept of a text while the profile's grammar with a construct added is read: what the parts may be as far as rows ask for it,
+-- and the construct's head, once it is told.
+use Rattle.std.specs.Prelude.{ℕ, zero, suc, Bool, true, false, ◌&&◌, ◌==◌, if◌then◌else◌, List, [], ◌∷◌, Option, Some, None}
+use Rattle.py_tokens.specs.Token.{Place}
+use Rattle.py_syntax.specs.Token.{Token as SourceToken, At}
+use Rattle.py_syntax.specs.Kinds.{kind_of}
+use Rattle.py_syntax.specs.Build as build
+
+pub data TokenSort : Type 0 where
+  NameToken : TokenSort
+  -- a round or a square bracket that opens
+  OpenToken : TokenSort
+  OtherToken : TokenSort
+
+-- what an expression may be
+pub record Reading : Type 0 where
+  -- it is a name
+  pub name : Bool
+  -- it may stand alone at the left of an assignment, as a name, an attribute or a subscript
+  pub target : Bool
+  -- it may stand there, one target or some
+  pub targets : Bool
+  -- an annotation may come behind it
+  pub annotable : Bool
+  -- all in it are names, in brackets or not
+  pub names : Bool
+  -- it is a call that has no arguments yet
+  pub fresh : Bool
+
+pub data Item : Type 0 where
+  -- a token, how many came before it, and its place
+  Token : (sort : TokenSort) → (number : ℕ) → (place : Place) → Item
+  Expression : (reading : Reading) → Item
+  -- the name of a class, and whether it has no point
+  Class : (bare : Bool) → Item
+  -- the body of a block or of the module, or targets behind which an assignment goes on
+  Base : Item
+  Other : Item
+
+-- a token, by how many came before it
+pub record Numbered : Type 0 where
+  pub number : ℕ
+  pub place : Place
+
+-- the construct's head, and by how many tokens it is known to be one
+pub record Told : Type 0 where
+  pub head : Numbered
+  pub known : ℕ
+
+pub record Value : Type 0 where
+  -- how many tokens were read
+  pub read : ℕ
+  -- the first that was told
+  pub told : Option Told
+  -- a head, if another token comes
+  pub held : Option Numbered
+  -- the last first
+  pub items : List Item
+
+abbrev pub begin : Value
+begin = record { read = 0; told = None; held = None; items = [] }
+
+-- the first that is told stays
+abbrev pub first_told : Option Told → Told → Option Told
+first_told None t = Some t
+first_told (Some s) t = Some s
+
+abbrev pub told_so : Option Told → Option Numbered → ℕ → Option Told
+told_so told None n = told
+told_so told (Some head) n = first_told told (record { head = head; known = n })
+
+-- by the number of its kind
+abbrev pub sort_of : ℕ → TokenSort
+sort_of k =
+    if k == 0 then NameToken else (if k == 1 then NameToken else (if k == 81 then OpenToken else (if k == 83 then OpenToken else OtherToken)))
+
+abbrev pub place_of : SourceToken → Place
+place_of (At p k) = p
+
+abbrev pub take_in : SourceToken → Value → Value
+take_in t v = record {
+  read = suc v.read;
+  told = told_so v.told v.held (suc v.read);
+  held = None;
+  items = Token (sort_of (kind_of t)) v.read (place_of t) ∷ v.items;
+}
+
+abbrev pub plain : Item
+plain = Expression (record { name = false; target = false; targets = false; annotable = false; names = false; fresh = false })
+
+-- a call that begins
+abbrev pub a_call : Item
+a_call = Expression (record { name = false; target = false; targets = false; annotable = false; names = false; fresh = true })
+
+abbrev pub a_name : Item
+a_name = Expression (record { name = true; target = true; targets = true; annotable = true; names = true; fresh = false })
+
+-- an attribute or a subscript
+abbrev pub a_target : Item
+a_target = Expression (record { name = false; target = true; targets = true; annotable = true; names = false; fresh = false })
+
+abbrev pub leaf : TokenSort → Item
+leaf NameToken = a_name
+leaf s = plain
+
+-- in round brackets; a target keeps that an annotation may come behind it
+abbrev pub in_round : Reading → Item
+in_round r = Expression (record { name = false; target = false; targets = r.targets; annotable = r.target; names = r.names; fresh = false })
+
+abbrev pub in_square : Reading → Item
+in_square r = Expression (record { name = false; target = false; targets = r.targets; annotable = false; names = r.names; fresh = false })
+
+-- a tuple without brackets, of one item and of one more
+abbrev pub tuple_of : Reading → Item
+tuple_of r = Expression (record { name = false; target = false; targets = r.target; annotable = false; names = r.names; fresh = false })
+
+abbrev pub one_more : Reading → Reading → Item
+one_more r s = Expression (record { name = false; target = false; targets = r.targets && s.target; annotable = false; names = r.names && s.names; fresh = false })
+
+-- without the last n
+abbrev pub less : ℕ → List Item → List Item
+less zero items = items
+less (suc n) [] = []
+less (suc n) (i ∷ items) = less n items
+
+-- what the actions of the profile's table make
+abbrev pub made : build.Action → List Item → List Item
+made build.Drop items = less 1 items
+made build.MakeLeaf (Token s n p ∷ items) = leaf s ∷ items
+made build.MakeLeaf items = plain ∷ items
+made build.MakeTrue items = plain ∷ less 1 items
+made build.MakeFalse items = plain ∷ less 1 items
+made build.MakeNone items = plain ∷ less 1 items
+made build.MakeEmptyTuple items = plain ∷ less 2 items
+made build.MakeParenthesis (t ∷ Expression r ∷ u ∷ items) = in_round r ∷ items
+made build.MakeParenthesis items = items
+made build.MakeTuple (t ∷ Expression r ∷ items) = tuple_of r ∷ items
+made build.MakeTuple items = items
+made build.AddItem (Expression s ∷ Expression r ∷ items) = one_more r s ∷ items
+made build.AddItem items = items
+made build.MakeEmptyList items = plain ∷ less 2 items
+made build.MakeListOfOne (t ∷ Expression r ∷ u ∷ items) = in_square r ∷ items
+made build.MakeListOfOne items = items
+made build.MakeList (t ∷ Expression r ∷ u ∷ items) = in_square r ∷ items
+made build.MakeList items = items
+made build.BeginComprehension items = plain ∷ less 2 items
+made build.BeginLoop items = Other ∷ less 4 items
+made build.AddCondition items = Other ∷ less 3 items
+made build.AddLoop items = plain ∷ less 2 items
+made build.MakeEmptyDict items = plain ∷ less 2 items
+made build.BeginDict items = plain ∷ less 4 items
+made build.AddPair items = plain ∷ less 4 items
+made build.MakeSetOfOne items = plain ∷ less 3 items
+made build.MakeSet items = plain ∷ less 3 items
+made build.MakeAttribute items = a_target ∷ less 3 items
+made build.BeginCall items = a_call ∷ less 2 items
+made build.AddArgument items = plain ∷ less 2 items
+made build.AddKeyword items = plain ∷ less 4 items
+made build.MakeSubscript items = a_target ∷ less 4 items
+made build.MakeSliceFrom items = plain ∷ less 4 items
+made build.MakeSlice items = plain ∷ less 3 items
+made build.AddUpper items = plain ∷ less 3 items
+made (build.MakeUnary o) items = plain ∷ less 2 items
+made (build.MakeBinary o) items = plain ∷ less 3 items
+made (build.MakeSign o) items = Other ∷ less 1 items
+made (build.MakeLongSign o) items = Other ∷ less 2 items
+made build.MakeCompare items = plain ∷ less 3 items
+made build.AddLink items = plain ∷ less 3 items
+made build.MakeNot items = plain ∷ less 2 items
+made build.MakeAnd items = plain ∷ less 3 items
+made build.AddAnd items = plain ∷ less 3 items
+made build.MakeOr items = plain ∷ less 3 items
+made build.AddOr items = plain ∷ less 3 items
+made build.MakeConditional items = plain ∷ less 5 items
+made build.MakeLoopName items = Other ∷ less 1 items
+made build.MakeLoopNames items = Other ∷ less 2 items
+made build.AddLoopName items = Other ∷ less 2 items
+made build.MakeLoopParenthesis items = Other ∷ less 3 items
+made build.BeginBody items = Base ∷ items
+made build.AddStmt items = Base ∷ less 2 items
+made build.MakeExprStmt items = Other ∷ less 1 items
+made build.MakeTargets items = Base ∷ less 2 items
+made build.AddTargets items = Base ∷ less 3 items
+made build.MakeAssign items = Other ∷ less 2 items
+made (build.MakeAugmented o) items = Other ∷ less 3 items
+made build.MakePass items = Other ∷ less 1 items
+made build.MakeBreak items = Other ∷ less 1 items
+made build.MakeContinue items = Other ∷ less 1 items
+made build.MakeReturn items = Other ∷ less 1 items
+made build.MakeReturnValue items = Other ∷ less 2 items
+made build.MakeRaise items = Other ∷ less 2 items
+made build.MakeYield items = Other ∷ less 2 items
+made build.BeginGlobal items = Other ∷ less 1 items
+made build.AddGlobal items = Other ∷ less 2 items
+made build.MakeAssert items = Other ∷ less 2 items
+made build.MakeAssertMessage items = Other ∷ less 4 items
+made build.MakeDelete items = Other ∷ less 2 items
+made build.MakeIf items = Other ∷ less 5 items
+made build.MakeElif items = Base ∷ less 5 items
+made build.MakeElse items = Base ∷ less 3 items
+made build.MakeWhile items = Other ∷ less 4 items
+made build.MakeFor items = Other ∷ less 6 items
+made build.BeginTry items = Other ∷ less 3 items
+made build.CatchAll items = Other ∷ less 4 items
+made build.Catch items = Other ∷ less 5 items
+made build.CatchAs items = Other ∷ less 7 items
+made build.MakeClassName items = Class true ∷ less 1 items
+made build.MakeClassWithin items = Class false ∷ less 3 items
+made build.BeginDef items = Other ∷ less 3 items
+made build.AddParameter items = Other ∷ less 2 items
+made build.AddDefault items = Other ∷ less 4 items
+made build.EndDef items = Other ∷ less 4 items
+made build.BeginClass items = Other ∷ less 2 items
+made build.AddBase items = Other ∷ less 4 items
+made build.EndClass items = Other ∷ less 3 items
+made build.BeginImport items = Other ∷ less 1 items
+made build.BeginFrom items = Other ∷ less 3 items
+made build.AddImported items = Other ∷ less 2 items
+made build.AddImportedAs items = Other ∷ less 4 items
+
+pub data Action : Type 0 where
+  Own : (action : build.Action) → Action
+  -- the last token is the head
+  Head : Action
+  -- the last token on the stack is the head, if another token comes
+  Hold : Action
+  -- drops the last item
+  Forget : Action
+  -- the last expression is no target
+  Plain : Action
+
+-- the last token on the stack
+abbrev pub last_token : List Item → Option Numbered
+last_token [] = None
+last_token (Token s n p ∷ items) = Some (record { number = n; place = p })
+last_token (Expression r ∷ items) = last_token items
+last_token (Class b ∷ items) = last_token items
+last_token (Base ∷ items) = last_token items
+last_token (Other ∷ items) = last_token items
+
+abbrev pub with_items : Value → List Item → Value
+with_items v items = record { read = v.read; told = v.told; held = v.held; items = items }
+
+abbrev pub act : Action → Value → Value
+act (Own a) v = with_items v (made a v.items)
+act Head v = record { read = v.read; told = told_so v.told (last_token v.items) v.read; held = v.held; items = v.items }
+act Hold v = record { read = v.read; told = v.told; held = last_token v.items; items = v.items }
+act Forget v = with_items v (less 1 v.items)
+act Plain v = with_items v (plain ∷ less 1 v.items)
+
+abbrev pub of_expression : (Reading → Bool) → List Item → Bool
+of_expression test (Expression r ∷ items) = test r
+of_expression test items = false
+
+-- what rows ask of the last items
+abbrev pub is_name : Value → Bool
+is_name v = of_expression (λ r. r.name) v.items
+
+abbrev pub is_target : Value → Bool
+is_target v = of_expression (λ r. r.target) v.items
+
+abbrev pub are_targets : Value → Bool
+are_targets v = of_expression (λ r. r.targets) v.items
+
+abbrev pub is_annotable : Value → Bool
+is_annotable v = of_expression (λ r. r.annotable) v.items
+
+abbrev pub is_deleted : Value → Bool
+is_deleted v = of_expression (λ r. r.names) v.items
+
+abbrev pub is_class_bare : List Item → Bool
+is_class_bare (Class b ∷ items) = b
+is_class_bare items = false
+
+abbrev pub is_bare : Value → Bool
+is_bare v = is_class_bare v.items
+
+abbrev pub is_call_fresh : List Item → Bool
+is_call_fresh (Expression r ∷ Expression s ∷ items) = s.fresh
+is_call_fresh items = false
+
+abbrev pub is_first_argument : Value → Bool
+is_first_argument v = is_call_fresh v.items
+
+-- brackets that are open from where a statement or the right side of an assignment begins
+abbrev pub are_open : List Item → Bool
+are_open [] = false
+are_open (Token OpenToken n p ∷ items) = are_open items
+are_open (Base ∷ items) = true
+are_open items = false
+
+abbrev pub are_open_targets : List Item → Bool
+are_open_targets (Expression r ∷ items) = r.targets && are_open items
+are_open_targets items = are_open items
+
+abbrev pub may_be_targets : Value → Bool
+may_be_targets v = are_open_targets v.items
