@@ -1,2 +1,6 @@
-mod Trials
-mod Findings
+pub mod Picked
+pub mod Taken
+pub mod Items
+pub mod SymbolStacks
+pub mod Turns
+pub mod Ways

@@ -1,34 +1,66 @@
 //! Constructs of Python that the profile leaves out and that are told by name.
 
-ghost use Rattle.std.specs.Prelude.{ℕ, ◌≡◌, List};
+ghost use Rattle.std.specs.Prelude.{◌≡◌};
 ghost use Rattle.py_constructs.specs.Construct.{construct_text};
-ghost use Rattle.py_constructs.specs.StandIns.{stand_in as stand_in_of};
-ghost use Rattle.py_syntax.specs.Token.{TKeyword, TOperator};
-ghost use Rattle.py_lexer.specs.PlainTokens.{keyword_text, operator_text};
-ghost use Rattle.py_syntax.specs.Kinds.{number_of};
-ghost use Rattle.py_table.specs.PlainTokens.{plain_kind};
-ghost use Rattle.py_outside.specs.PlainConstructs.{plain_construct, plain_stand_in, StandsInPhrase};
+ghost use Rattle.py_outside.specs.PlainConstructs.{plain_construct, IsNext};
 
-use py_lexer::token::{Keyword, Operator, TokenKind};
-
-/// A construct of Python outside the profile (Python reference, "Lexical analysis", "Expressions", "Simple statements").
+/// A construct of Python outside the profile. Where several have one head, the first of these is named.
 #[derive(Clone, Copy, Debug, PartialEq, Eq)]
 pub enum Construct {
-    /// A number with a point or an exponent ("Floating-point literals").
+    /// A number with a point or an exponent.
     Float,
-    /// "Imaginary literals".
+    /// A number with a `j` behind it.
     Imaginary,
-    /// A literal of bytes ("String and Bytes literals").
+    /// A literal of bytes.
     Bytes,
-    /// "f-strings".
+    /// A formatted text.
     FormattedText,
-    /// `/` or `/=` ("Binary arithmetic operations").
+    /// `/` and `/=`.
     Division,
-    /// `@` between operands, or `@=`.
+    /// `@` and `@=` between operands.
     MatrixProduct,
-    /// "The nonlocal statement".
+    Decorator,
+    Lambda,
+    /// A function in a block.
+    NestedDefinition,
+    /// A class in a block or in a class.
+    NestedClass,
+    StarParameter,
+    StarArgument,
+    /// An argument by name in a call of a method.
+    MethodKeyword,
+    Annotation,
+    /// An assignment in a class.
+    ClassAttribute,
+    SeveralBases,
+    ClassKeyword,
+    SliceStep,
+    LoopElse,
+    TryElse,
+    Finally,
+    With,
+    Async,
+    Await,
     Nonlocal,
-    /// `...` ("The Ellipsis Object").
+    YieldExpression,
+    YieldFrom,
+    GeneratorExpression,
+    SetComprehension,
+    DictComprehension,
+    /// An assignment expression.
+    Walrus,
+    StarImport,
+    RelativeImport,
+    DottedImport,
+    /// An import in a block or in a class.
+    NestedImport,
+    NonasciiModule,
+    BareRaise,
+    RaiseFrom,
+    ExceptTuple,
+    DeleteName,
+    StarredTarget,
+    /// `...`
     Ellipsis,
 }
 
@@ -44,68 +76,92 @@ impl Construct {
             Construct::FormattedText => "fstring",
             Construct::Division => "division",
             Construct::MatrixProduct => "matmul",
+            Construct::Decorator => "decorator",
+            Construct::Lambda => "lambda",
+            Construct::NestedDefinition => "nested-def",
+            Construct::NestedClass => "nested-class",
+            Construct::StarParameter => "star-parameter",
+            Construct::StarArgument => "star-argument",
+            Construct::MethodKeyword => "method-keyword",
+            Construct::Annotation => "annotation",
+            Construct::ClassAttribute => "class-attribute",
+            Construct::SeveralBases => "several-bases",
+            Construct::ClassKeyword => "class-keyword",
+            Construct::SliceStep => "slice-step",
+            Construct::LoopElse => "loop-else",
+            Construct::TryElse => "try-else",
+            Construct::Finally => "finally",
+            Construct::With => "with",
+            Construct::Async => "async",
+            Construct::Await => "await",
             Construct::Nonlocal => "nonlocal",
+            Construct::YieldExpression => "yield-expression",
+            Construct::YieldFrom => "yield-from",
+            Construct::GeneratorExpression => "generator-expression",
+            Construct::SetComprehension => "set-comprehension",
+            Construct::DictComprehension => "dict-comprehension",
+            Construct::Walrus => "walrus",
+            Construct::StarImport => "star-import",
+            Construct::RelativeImport => "relative-import",
+            Construct::DottedImport => "dotted-import",
+            Construct::NestedImport => "nested-import",
+            Construct::NonasciiModule => "nonascii-module",
+            Construct::BareRaise => "bare-raise",
+            Construct::RaiseFrom => "raise-from",
+            Construct::ExceptTuple => "except-tuple",
+            Construct::DeleteName => "del-name",
+            Construct::StarredTarget => "starred-target",
             Construct::Ellipsis => "ellipsis",
         }
     }
-}
 
-/// What stands for a keyword that begins a phrase.
-fn keyword_stand_in(keyword: Keyword) -> Option<(Construct, TokenKind)>
-    ensures number { (texts : List (List ℕ)) → plain_stand_in texts result ≡ stand_in_of (number_of (TKeyword (keyword_text keyword))) }
-    ensures phrase { (texts : List (List ℕ)) → StandsInPhrase texts (TKeyword (keyword_text keyword)) result }
-{
-    match keyword {
-        Keyword::Nonlocal => Some((Construct::Nonlocal, TokenKind::Keyword(Keyword::Global))),
-        _ => None,
-    }
-}
-
-/// What stands for an operator that begins a phrase.
-fn operator_stand_in(operator: Operator) -> Option<(Construct, TokenKind)>
-    ensures number { (texts : List (List ℕ)) → plain_stand_in texts result ≡ stand_in_of (number_of (TOperator (operator_text operator))) }
-    ensures phrase { (texts : List (List ℕ)) → StandsInPhrase texts (TOperator (operator_text operator)) result }
-{
-    match operator {
-        Operator::Slash => Some((Construct::Division, TokenKind::Operator(Operator::Star))),
-        Operator::SlashEqual => {
-            Some((
-                Construct::Division,
-                TokenKind::Operator(Operator::StarEqual),
-            ))
+    /// The construct behind this one, in the order in which they are told.
+    pub(crate) fn next(self) -> Option<Construct>
+        ensures { IsNext (plain_construct self) result }
+    {
+        match self {
+            Construct::Float => Some(Construct::Imaginary),
+            Construct::Imaginary => Some(Construct::Bytes),
+            Construct::Bytes => Some(Construct::FormattedText),
+            Construct::FormattedText => Some(Construct::Division),
+            Construct::Division => Some(Construct::MatrixProduct),
+            Construct::MatrixProduct => Some(Construct::Decorator),
+            Construct::Decorator => Some(Construct::Lambda),
+            Construct::Lambda => Some(Construct::NestedDefinition),
+            Construct::NestedDefinition => Some(Construct::NestedClass),
+            Construct::NestedClass => Some(Construct::StarParameter),
+            Construct::StarParameter => Some(Construct::StarArgument),
+            Construct::StarArgument => Some(Construct::MethodKeyword),
+            Construct::MethodKeyword => Some(Construct::Annotation),
+            Construct::Annotation => Some(Construct::ClassAttribute),
+            Construct::ClassAttribute => Some(Construct::SeveralBases),
+            Construct::SeveralBases => Some(Construct::ClassKeyword),
+            Construct::ClassKeyword => Some(Construct::SliceStep),
+            Construct::SliceStep => Some(Construct::LoopElse),
+            Construct::LoopElse => Some(Construct::TryElse),
+            Construct::TryElse => Some(Construct::Finally),
+            Construct::Finally => Some(Construct::With),
+            Construct::With => Some(Construct::Async),
+            Construct::Async => Some(Construct::Await),
+            Construct::Await => Some(Construct::Nonlocal),
+            Construct::Nonlocal => Some(Construct::YieldExpression),
+            Construct::YieldExpression => Some(Construct::YieldFrom),
+            Construct::YieldFrom => Some(Construct::GeneratorExpression),
+            Construct::GeneratorExpression => Some(Construct::SetComprehension),
+            Construct::SetComprehension => Some(Construct::DictComprehension),
+            Construct::DictComprehension => Some(Construct::Walrus),
+            Construct::Walrus => Some(Construct::StarImport),
+            Construct::StarImport => Some(Construct::RelativeImport),
+            Construct::RelativeImport => Some(Construct::DottedImport),
+            Construct::DottedImport => Some(Construct::NestedImport),
+            Construct::NestedImport => Some(Construct::NonasciiModule),
+            Construct::NonasciiModule => Some(Construct::BareRaise),
+            Construct::BareRaise => Some(Construct::RaiseFrom),
+            Construct::RaiseFrom => Some(Construct::ExceptTuple),
+            Construct::ExceptTuple => Some(Construct::DeleteName),
+            Construct::DeleteName => Some(Construct::StarredTarget),
+            Construct::StarredTarget => Some(Construct::Ellipsis),
+            Construct::Ellipsis => None,
         }
-        Operator::At => Some((
-            Construct::MatrixProduct,
-            TokenKind::Operator(Operator::Star),
-        )),
-        Operator::AtEqual => {
-            Some((
-                Construct::MatrixProduct,
-                TokenKind::Operator(Operator::StarEqual),
-            ))
-        }
-        Operator::Ellipsis => Some((Construct::Ellipsis, TokenKind::Number(0))),
-        _ => None,
-    }
-}
-
-/// What stands for a token that begins a phrase, whose head it is.
-pub(crate) fn stand_in(kind: &TokenKind) -> Option<(Construct, TokenKind)>
-    ensures number { (texts : List (List ℕ)) → plain_stand_in texts result ≡ stand_in_of (number_of (plain_kind texts kind.now)) }
-    ensures phrase { (texts : List (List ℕ)) → StandsInPhrase texts (plain_kind texts kind.now) result }
-{
-    match kind {
-        TokenKind::Float => Some((Construct::Float, TokenKind::Number(0))),
-        TokenKind::Imaginary => Some((Construct::Imaginary, TokenKind::Number(0))),
-        TokenKind::Bytes => Some((Construct::Bytes, TokenKind::Number(0))),
-        TokenKind::Formatted => Some((Construct::FormattedText, TokenKind::Number(0))),
-        TokenKind::Keyword(keyword) => keyword_stand_in(*keyword),
-        TokenKind::Operator(operator) => operator_stand_in(*operator),
-        TokenKind::Name(_) => None,
-        TokenKind::Number(_) => None,
-        TokenKind::Text(_) => None,
-        TokenKind::Newline => None,
-        TokenKind::Indent => None,
-        TokenKind::Dedent => None,
     }
 }

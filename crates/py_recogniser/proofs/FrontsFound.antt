@@ -6,7 +6,7 @@ use Rattle.py_tokens.specs.Token as texts
 use Rattle.py_syntax.specs.Token as meaning
 use Rattle.py_syntax.specs.Token.{Token}
 use Rattle.py_syntax.specs.Laws.{IsLongestFront}
-use Rattle.py_constructs.specs.Outside.{Told, told, IsTold}
+use Rattle.py_constructs.specs.Standing.{Finding, finding, IsFinding}
 use Rattle.py_outside.specs.PlainConstructs.{plain_construct}
 use Rattle.py_outside.specs.declared.construct.Construct.{Construct}
 use Rattle.py_recogniser.specs.declared.refusal.ParseRefusal.TheVariants as refusal
@@ -76,36 +76,31 @@ front_split names ts front back rest e h (ahead, z, l) =
     let s = same_split (plain_tokens names front) (plain_tokens names back) ahead (plain_tokens names rest) (sym plain ∙ z) many in
     (plain, subst₂ (λ (a b : List Token). IsLongestFront a b) (sym s.0) (sym s.1) l)
 
--- what is told behind the longest front is told of all tokens
-told_at : (ts front back : List Token) (found : Option Told) → ts ≡ front ++ back → IsLongestFront front back → (IsLongestFront front back → IsTold (front ++ back) (length front) found)
-    → (take (length front) ts ≡ front) × (drop (length front) ts ≡ back) × IsTold ts (length front) found
-told_at ts front back found e l is_told = (
-  ap (take (length front)) e ∙ take-append_seam front back,
-  ap (drop (length front)) e ∙ drop-append_seam front back,
-  subst (λ (x : List Token). IsTold x (length front) found) (sym e) (is_told l),
-)
+-- the first so many tokens are the front, and the others the rest
+split_at : (ts front back : List Token) (n : ℕ) → ts ≡ front ++ back → n ≡ length front → (take n ts ≡ front) × (drop n ts ≡ back)
+split_at ts front back n e h = rw h (ap (take (length front)) e ∙ take-append_seam front back, ap (drop (length front)) e ∙ drop-append_seam front back)
 
 -- a refusal at the rest of some tokens
-pub unexpected_at : (names : List (List ℕ)) (ts front back rest : List TokenRead) (p : Place) (f : Found) → ts ≡ front ++ back → length back ≡ length rest
-    → (IsLongestFront (plain_tokens names front) (plain_tokens names back) → IsTold (plain_tokens names front ++ plain_tokens names back) (length (plain_tokens names front)) None)
-    → IsFound names (text_tokens names ts) p f (text_tokens names back) → IsRest (plain_tokens names ts) (plain_tokens names rest)
+pub unexpected_at : (names : List (List ℕ)) (ts front back rest : List TokenRead) (n : ℕ) (p : Place) (f : Found) → ts ≡ front ++ back → length back ≡ length rest → n ≡ length front
+    → IsFinding (plain_tokens names ts) n None → IsFound names (text_tokens names ts) p f (text_tokens names back) → IsRest (plain_tokens names ts) (plain_tokens names rest)
     → IsParseRefused names ts (refusal.Unexpected p f)
-unexpected_at names ts front back rest p f e h is_told found r =
+unexpected_at names ts front back rest n p f e h m none found r =
     let s = front_split names ts front back rest e h r in
-    let n : ℕ = length (plain_tokens names front) in
-    let t = told_at (plain_tokens names ts) (plain_tokens names front) (plain_tokens names back) None s.0 s.1 is_told in
+    let many : n ≡ length (plain_tokens names front) = m ∙ sym (length-map front (plain_token names)) in
+    let t = split_at (plain_tokens names ts) (plain_tokens names front) (plain_tokens names back) n s.0 many in
     let behind_texts : drop n (text_tokens names ts) ≡ text_tokens names back =
     ap (drop n) (sym (all_spelt names ts)) ∙ drop-map (spelt names) n (plain_tokens names ts) ∙ ap (map (spelt names)) t.1 ∙ all_spelt names back in (
       n,
       subst₂ (λ (a b : List Token). IsLongestFront a b) (sym t.0) (sym t.1) s.1,
       subst (λ (l : List texts.Token). IsFound names (text_tokens names ts) p f l) (sym behind_texts) found,
-      t.2,
+      none,
     )
 
-pub outside_at : (names : List (List ℕ)) (ts front back rest : List TokenRead) (p : Place) (c : Construct) → ts ≡ front ++ back → length back ≡ length rest
-    → (IsLongestFront (plain_tokens names front) (plain_tokens names back) → IsTold (plain_tokens names front ++ plain_tokens names back) (length (plain_tokens names front)) (Some (told (plain_construct c) (plain_place p))))
-    → IsRest (plain_tokens names ts) (plain_tokens names rest) → IsParseRefused names ts (refusal.Outside p c)
-outside_at names ts front back rest p c e h is_told r =
+pub outside_at : (names : List (List ℕ)) (ts front back rest : List TokenRead) (n : ℕ) (p : Place) (c : Construct) → ts ≡ front ++ back → length back ≡ length rest → n ≡ length front
+    → IsFinding (plain_tokens names ts) n (Some (finding (plain_construct c) (plain_place p))) → IsRest (plain_tokens names ts) (plain_tokens names rest)
+    → IsParseRefused names ts (refusal.Outside p c)
+outside_at names ts front back rest n p c e h m found r =
     let s = front_split names ts front back rest e h r in
-    let t = told_at (plain_tokens names ts) (plain_tokens names front) (plain_tokens names back) (Some (told (plain_construct c) (plain_place p))) s.0 s.1 is_told in
-    (length (plain_tokens names front), subst₂ (λ (a b : List Token). IsLongestFront a b) (sym t.0) (sym t.1) s.1, t.2)
+    let many : n ≡ length (plain_tokens names front) = m ∙ sym (length-map front (plain_token names)) in
+    let t = split_at (plain_tokens names ts) (plain_tokens names front) (plain_tokens names back) n s.0 many in
+    (n, subst₂ (λ (a b : List Token). IsLongestFront a b) (sym t.0) (sym t.1) s.1, found)

@@ -5,7 +5,7 @@ use Rattle.py_syntax.specs.Tree.{Body}
 use Rattle.py_syntax.specs.Grammar.{IsModule}
 use Rattle.py_syntax.specs.Laws.{IsLongestFront}
 use Rattle.py_nesting.specs.TooDeep.{IsFirstTooDeep}
-use Rattle.py_constructs.specs.Outside.{told, IsTold}
+use Rattle.py_constructs.specs.Standing.{finding, IsFinding}
 use Rattle.py_outside.specs.PlainConstructs.{plain_construct}
 use Rattle.py_lexer.specs.PlainTokens.{plain_place, plain_kind, plain_tokens as text_tokens}
 use Rattle.py_lexer.specs.declared.token.Token.{Token as TokenRead}
@@ -34,9 +34,9 @@ IsFound names ts p (found.Token k) (t ∷ rest) = (plain_place p ≡ t.place) ×
 abbrev pub IsParseRefused : List (List ℕ) → List TokenRead → ParseRefusal → Type 0
 IsParseRefused names ts (refusal.Unexpected p f) =
     (count : ℕ) × IsLongestFront (take count (plain_tokens names ts)) (drop count (plain_tokens names ts))
-    × IsFound names (text_tokens names ts) p f (drop count (text_tokens names ts)) × IsTold (plain_tokens names ts) count None
+    × IsFound names (text_tokens names ts) p f (drop count (text_tokens names ts)) × IsFinding (plain_tokens names ts) count None
 IsParseRefused names ts (refusal.Outside p c) =
     (count : ℕ) × IsLongestFront (take count (plain_tokens names ts)) (drop count (plain_tokens names ts))
-    × IsTold (plain_tokens names ts) count (Some (told (plain_construct c) (plain_place p)))
+    × IsFinding (plain_tokens names ts) count (Some (finding (plain_construct c) (plain_place p)))
 IsParseRefused names ts (refusal.TooDeep p) = (tree : Body) × IsModule tree (plain_tokens names ts) × IsFirstTooDeep (plain_place p) tree
 IsParseRefused names ts refusal.NoMemory = Unit {0}

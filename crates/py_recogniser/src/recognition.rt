@@ -1,17 +1,18 @@
 //! Whether tokens are a module that is not nested too deep.
 
 ghost use Rattle.std.specs.Prelude.{ℕ, ◌≡◌, List, IfOk, IfErr, OnOk};
-ghost use Rattle.py_lexer.specs.PlainTokens.{plain_place, plain_tokens as text_tokens};
-ghost use Rattle.py_table.specs.PlainTokens.{plain_tokens};
+ghost use Rattle.py_lexer.specs.PlainTokens.{plain_place, plain_kind as text_kind, plain_tokens as text_tokens};
+ghost use Rattle.py_table.specs.PlainTokens.{plain_kind, plain_tokens};
 ghost use Rattle.py_depth.specs.Found.{IsRest};
 ghost use Rattle.py_recogniser.specs.Recognised.{IsRecognised};
 ghost use Rattle.py_recogniser.specs.Refused.{last_place, IsFound, IsParseRefused};
 
 use crate::refusal::{Found, ParseRefusal};
 use py_depth::{Depth, find_depth};
-use py_lexer::token::Token;
-use py_outside::{copied, find_outside};
+use py_lexer::token::{Token, TokenKind};
+use py_outside::find_outside;
 use shed_base::{Names, Place};
+use sqlite_items::Items;
 use std::alloc::{AllocError, Global};
 
 /// Where a module begins.
@@ -29,6 +30,28 @@ fn place_of_last(tokens: &[Token]) -> Place
         Some((token, _)) => token.place,
         None => BEGINNING,
     }
+}
+
+/// The same kind of a token once more.
+fn copied(alloc: Global, kind: &TokenKind) -> Result<TokenKind, AllocError>
+    ensures text { IfOk result (λ k. (names : List (List ℕ)) → text_kind names k ≡ text_kind names kind.now) }
+    ensures kind { IfOk result (λ k. (names : List (List ℕ)) → plain_kind names k ≡ plain_kind names kind.now) }
+{
+    let kind = match kind {
+        TokenKind::Name(name) => TokenKind::Name(*name),
+        TokenKind::Keyword(keyword) => TokenKind::Keyword(*keyword),
+        TokenKind::Operator(operator) => TokenKind::Operator(*operator),
+        TokenKind::Number(value) => TokenKind::Number(*value),
+        TokenKind::Text(text) => TokenKind::Text(Items::from_slice(alloc, text.as_slice())?),
+        TokenKind::Float => TokenKind::Float,
+        TokenKind::Imaginary => TokenKind::Imaginary,
+        TokenKind::Bytes => TokenKind::Bytes,
+        TokenKind::Formatted => TokenKind::Formatted,
+        TokenKind::Newline => TokenKind::Newline,
+        TokenKind::Indent => TokenKind::Indent,
+        TokenKind::Dedent => TokenKind::Dedent,
+    };
+    Ok(kind)
 }
 
 /// What stands at the front of the rest of some tokens, and where.
@@ -53,11 +76,11 @@ fn refusal_at(
     let Some(count) = tokens.len().checked_sub(rest.len()) else {
         return Err(AllocError);
     };
-    let (front, rest) = tokens.split_at(count);
-    if let Some((construct, place)) = find_outside(alloc, front, rest, names)? {
+    let (_, behind) = tokens.split_at(count);
+    if let Some((construct, place)) = find_outside(alloc, tokens, count, names)? {
         return Ok(ParseRefusal::Outside(place, construct));
     }
-    let (place, found) = found(alloc, tokens, rest)?;
+    let (place, found) = found(alloc, tokens, behind)?;
     Ok(ParseRefusal::Unexpected(place, found))
 }
 

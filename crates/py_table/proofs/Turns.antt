@@ -40,7 +40,7 @@ kind_below (At p (TKeyword s)) = let most : place_among keywords s ≤ 35 = no_m
 kind_below (At p (TOperator s)) = let most : place_among operators s ≤ 47 = no_more operators s in omega arith
 kind_below (At p _) = omega arith
 
-sight_of_number : (ts : List Token) → sight table ts ≡ sight_numbered (number_of_sight ts)
+pub sight_of_number : (ts : List Token) → sight table ts ≡ sight_numbered (number_of_sight ts)
 sight_of_number [] = refl
 sight_of_number (t ∷ ts) = go (kind_of t == end_number) refl
   where

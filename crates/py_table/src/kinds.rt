@@ -127,7 +127,7 @@ fn is_ascii_name(name: Name, names: &Names) -> bool
     }
 }
 
-pub(crate) fn kind_of(token: &Token, names: &Names) -> u8
+pub fn kind_of(token: &Token, names: &Names) -> u8
     ensures number { result ≡ number_of_kind (plain.plain_token names.now token.now) }
     ensures below { result < 95 }
 {
@@ -148,7 +148,7 @@ pub(crate) fn kind_of(token: &Token, names: &Names) -> u8
 }
 
 /// The number of the sight before these tokens.
-pub(crate) fn sight(rest: &[Token], names: &Names) -> u8
+pub fn sight(rest: &[Token], names: &Names) -> u8
     ensures number { result ≡ number_of_sight (plain.plain_tokens names.now rest.now) }
     ensures within { result < 96 }
 {

@@ -4,10 +4,10 @@
 
 mod compound_rows;
 mod kind_numbers;
-mod kinds;
+pub mod kinds;
 mod operator_rows;
 mod primary_rows;
-mod rows;
+pub mod rows;
 pub mod run;
 mod sights;
 mod simple_rows;

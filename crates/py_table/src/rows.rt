@@ -8,7 +8,7 @@ use crate::symbol::{Nonterminal, Row};
 use crate::{compound_rows, operator_rows, primary_rows, simple_rows};
 
 /// The rows of a nonterminal.
-pub(crate) fn rows_of(nonterminal: Nonterminal) -> &'static [Row]
+pub fn rows_of(nonterminal: Nonterminal) -> &'static [Row]
     ensures { map plain_row result.now ≡ rows (plain_nonterminal nonterminal) }
 {
     match nonterminal {

@@ -13,7 +13,7 @@ use Rattle.py_syntax.specs.Grammar.{IsModule}
 use Rattle.py_syntax.specs.Laws.{IsLongestFront}
 use Rattle.py_syntax.specs.Heights.{IsShallow}
 use Rattle.py_constructs.specs.Construct.{construct_text}
-use Rattle.py_constructs.specs.Outside.{told, IsTold}
+use Rattle.py_constructs.specs.Standing.{finding, IsFinding}
 use Rattle.py_outside.specs.PlainConstructs.{plain_construct}
 use Rattle.py_outside.specs.declared.construct.Construct.{Construct}
 use Rattle.py_meaning.specs.Tree.{Body}
@@ -102,7 +102,7 @@ module _ (text : List ℕ) (names : List (List ℕ)) (ts : List TokenRead) (lexe
         longest = subst (λ (us : List Token). IsLongestFront (take h.0 us) (drop h.0 us)) (sym seen) h.1;
         place = found_place names (text_tokens names ts) p f (drop h.0 (text_tokens names ts)) h.2;
         words = found_words names (text_tokens names ts) p f (drop h.0 (text_tokens names ts)) h.2;
-        none = subst (λ (us : List Token). IsTold us h.0 None) (sym seen) h.3;
+        none = subst (λ (us : List Token). IsFinding us h.0 None) (sym seen) h.3;
       },
     ),
     ap plain_place place,
@@ -120,7 +120,7 @@ module _ (text : List ℕ) (names : List (List ℕ)) (ts : List TokenRead) (lexe
       record {
         count = h.0;
         longest = subst (λ (us : List Token). IsLongestFront (take h.0 us) (drop h.0 us)) (sym seen) h.1;
-        told = subst (λ (us : List Token). IsTold us h.0 (Some (told (plain_construct c) (plain_place p)))) (sym seen) h.2;
+        found = subst (λ (us : List Token). IsFinding us h.0 (Some (finding (plain_construct c) (plain_place p)))) (sym seen) h.2;
       },
     ),
     ap plain_place place,
