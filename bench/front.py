@@ -93,6 +93,11 @@ PARSED = (
     ("targets", lambda size: filled("x = ", size) + "1"),
     ("sums", lambda size: "x = " + filled("1 + ", size) + "1"),
     ("powers", lambda size: "x = " + filled("1**", size) + "1"),
+    ("lambda behind assignments", lambda size: filled("total = total + 12 * item\n", size) + "f = lambda x: x\n"),
+    ("lambdas in one another", lambda size: "x = " + filled("lambda: ", size) + "1\n"),
+    ("walrus in brackets", lambda size: "(" * (size // 2) + "x := 1" + ")" * (size // 2) + "\n"),
+    ("starred target in brackets", lambda size: "[" * (size // 2) + "*a" + "]" * (size // 2) + "\n"),
+    ("class attribute", lambda size: "class A:\n  x" + filled(", x", size) + " = 1\n"),
 )
 
 
