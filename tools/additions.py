@@ -569,20 +569,8 @@ plain_name (name.Profile x) = meaning.Profile (profile.plain_nonterminal x)
     out += [f"plain_name name.{x} = meaning.{x}\n" for x in grammar.places]
     out.append("\nabbrev pub plain_action : Action → value.Action\nplain_action (action.Own a) = value.Own (profile.plain_action a)\n")
     out += [f"plain_action action.{a} = value.{a}\n" for a in OWN_ACTIONS]
-    out.append("\nabbrev pub plain_guard : Guard → PlainGuard value.Value\nplain_guard guard.Always = Always\n")
-    out += [f"plain_guard guard.{pascal(g)} = Where value.{g}\n" for g in GUARDS]
+    out.append(table.symbol_views(GUARDS, "value", "plain_name", "value.Value", "meaning.Name value.Action value.Value"))
     out.append("""
-abbrev pub plain_symbol : Symbol → meaning.Symbol
-plain_symbol (symbol.Read kind) = Tok kind
-plain_symbol (symbol.Expand x) = Non (plain_name x)
-plain_symbol (symbol.Do a) = Do (plain_action a)
-
-abbrev pub plain_symbols : List Symbol → List meaning.Symbol
-plain_symbols = map plain_symbol
-
-abbrev pub plain_row : Row → PlainRow meaning.Name value.Action value.Value
-plain_row r = record { guard = plain_guard r.guard; symbols = plain_symbols r.symbols.now }
-
 -- a row of the profile's table, without its guard
 abbrev pub plain_profile_row : ProfileRow → PlainRow meaning.Name value.Action value.Value
 plain_profile_row r = meaning.row (map meaning.profile_symbol (profile.plain_symbols r.symbols.now))

@@ -287,6 +287,26 @@ def rust_symbol(symbol):
     return f"Do({name}({argument_type(name)}::{argument}))" if argument else f"Do({name})"
 
 
+def symbol_views(guards, module, name_view, value, row):
+    """The views of guards, symbols and rows: the guards' tests stand in a module, and a view tells names."""
+    tests = "".join(f"plain_guard guard.{pascal(g)} = Where {module}.{g}\n" for g in guards)
+    return f"""
+abbrev pub plain_guard : Guard → PlainGuard {value}
+plain_guard guard.Always = Always
+{tests}
+abbrev pub plain_symbol : Symbol → meaning.Symbol
+plain_symbol (symbol.Read kind) = Tok kind
+plain_symbol (symbol.Expand x) = Non ({name_view} x)
+plain_symbol (symbol.Do a) = Do (plain_action a)
+
+abbrev pub plain_symbols : List Symbol → List meaning.Symbol
+plain_symbols = map plain_symbol
+
+abbrev pub plain_row : Row → PlainRow {row}
+plain_row r = record {{ guard = plain_guard r.guard; symbols = plain_symbols r.symbols.now }}
+"""
+
+
 def write_rust(grammar, follow, begins):
     source = HERE.parent / "crates/py_table/src"
     guards = ["are_targets_last", "is_target_last", "is_name_last"]
@@ -444,20 +464,7 @@ abbrev pub plain_nonterminal : Nonterminal → meaning.Nonterminal
             out.append(f"plain_action (action.{a} o) = build.{a} ({view} o)\n")
         else:
             out.append(f"plain_action action.{a} = build.{a}\n")
-    out.append("\nabbrev pub plain_guard : Guard → PlainGuard build.Parts\nplain_guard guard.Always = Always\n")
-    out += [f"plain_guard guard.{pascal(g)} = Where build.{g}\n" for g in guards]
-    out.append("""
-abbrev pub plain_symbol : Symbol → meaning.Symbol
-plain_symbol (symbol.Read kind) = Tok kind
-plain_symbol (symbol.Expand x) = Non (plain_nonterminal x)
-plain_symbol (symbol.Do a) = Do (plain_action a)
-
-abbrev pub plain_symbols : List Symbol → List meaning.Symbol
-plain_symbols = map plain_symbol
-
-abbrev pub plain_row : Row → PlainRow meaning.Nonterminal build.Action build.Parts
-plain_row r = record { guard = plain_guard r.guard; symbols = plain_symbols r.symbols.now }
-""")
+    out.append(symbol_views(guards, "build", "plain_nonterminal", "build.Parts", "meaning.Nonterminal build.Action build.Parts"))
     (HERE.parent / "crates/py_table/specs/PlainSymbols.antt").write_text("".join(out))
 
 
