@@ -43,12 +43,9 @@ gone_back events (suc j) d whole first next ds es p q h e f =
     ∙ ap (λ (l : List walking.Demand). first_of next (walk (events_of (take j events)) l)) (sym (rw one at e)))
 
 -- before the first
-pub begun : (events : List Event) (none one : List Demand) → none ≡ [] → one ≡ none ++ demand.Whole 0 ∷ []
-    → first_of None (walk (events_of events) (walking.Whole 0 ∷ [])) ≡ first_of None (walk (events_of (take (length events) events)) (demands_of one))
-begun events none one e f =
-    let asked : demands_of one ≡ walking.Whole 0 ∷ [] =
-    ap demands_of (f ∙ ap (λ (l : List Demand). l ++ demand.Whole 0 ∷ []) e) ∙ demands_of-push [] (demand.Whole 0) ∙ ap (λ (l : List walking.Demand). walking.Whole 0 ∷ l) demands_of-nothing in
-    rw (take-length events, asked) refl
+pub begun : (events : List Event) (first : Option token.Place) (ds : List walking.Demand)
+    → first_of first (walk (events_of events) ds) ≡ first_of first (walk (events_of (take (length events) events)) ds)
+begun events first ds = rw (take-length events) refl
 
 -- behind the last
 pub gone_through : (events : List Event) (i : ℕ) (whole first : Option token.Place) (ds : List walking.Demand) → i ≤ 0

@@ -4,7 +4,7 @@ use shed_base::Place;
 
 /// What a node is, as far as it matters where expressions turn out to be targets.
 #[derive(Clone, Copy, Debug)]
-pub(crate) enum Label {
+pub enum Label {
     Plain,
     /// Brackets round one expression, which may turn out to be targets.
     Bracket,
@@ -14,7 +14,7 @@ pub(crate) enum Label {
 
 /// A step.
 #[derive(Clone, Copy, Debug)]
-pub(crate) enum Event {
+pub enum Event {
     /// A node comes over so many from the top.
     Over(Label, Place, u8),
     /// So many from the top become a group.

@@ -2,12 +2,12 @@
 #![tactic(auto)]
 
 mod depth;
-mod event;
-mod nest;
+pub mod event;
+pub mod nest;
 mod nested;
 mod nested_expressions;
 mod nested_statements;
-mod shape;
-mod walk;
+pub mod shape;
+pub mod walk;
 
 pub use depth::{Depth, find_depth};

@@ -15,9 +15,9 @@ use std::alloc::AllocError;
 
 /// Entries with the last on top, and the steps in their order.
 #[derive(Debug, Drop)]
-pub(crate) struct Nest {
-    pub(crate) entries: Vec<Entry>,
-    pub(crate) events: Vec<Event>,
+pub struct Nest {
+    pub entries: Vec<Entry>,
+    pub events: Vec<Event>,
 }
 
 // Each of these takes the last entry, which is of this sort. No other comes: the answer is then want of memory.

@@ -8,7 +8,7 @@ use shed_base::Place;
 
 /// What a token is, as far as actions ask.
 #[derive(Clone, Copy, Debug)]
-pub(crate) enum TokenForm {
+pub enum TokenForm {
     Name,
     /// A number or a text.
     Literal,
@@ -17,7 +17,7 @@ pub(crate) enum TokenForm {
 
 /// What an expression is, as far as actions and guards ask.
 #[derive(Clone, Copy, Debug)]
-pub(crate) enum ExprForm {
+pub enum ExprForm {
     Name,
     /// An attribute, which may be a target.
     Target,
@@ -38,20 +38,20 @@ pub(crate) enum ExprForm {
 }
 
 #[derive(Clone, Copy, Debug)]
-pub(crate) enum LoopTargetForm {
+pub enum LoopTargetForm {
     OneName,
     SomeNames,
     InBrackets,
 }
 
 #[derive(Clone, Copy, Debug)]
-pub(crate) enum ClassNameForm {
+pub enum ClassNameForm {
     Bare,
     Dotted,
 }
 
 #[derive(Clone, Copy, Debug)]
-pub(crate) enum StmtForm {
+pub enum StmtForm {
     Global,
     Try,
     Def,
@@ -61,7 +61,7 @@ pub(crate) enum StmtForm {
 
 /// What form a part has.
 #[derive(Clone, Copy, Debug)]
-pub(crate) enum Shape {
+pub enum Shape {
     Token(TokenForm),
     /// A full one takes no more items or arguments by place.
     Expr(ExprForm, bool),
@@ -79,9 +79,9 @@ pub(crate) enum Shape {
 
 /// A part: its form, and where it begins, as far as nodes above it want to know.
 #[derive(Clone, Copy, Debug)]
-pub(crate) struct Entry {
-    pub(crate) shape: Shape,
-    pub(crate) place: Place,
+pub struct Entry {
+    pub shape: Shape,
+    pub place: Place,
 }
 
 /// The place of a part where nothing is to be said.
@@ -100,7 +100,7 @@ pub(crate) fn is_target(form: ExprForm) -> bool
     }
 }
 
-pub(crate) fn are_targets(form: ExprForm) -> bool
+pub fn are_targets(form: ExprForm) -> bool
     ensures { result ≡ is_form_of_targets (plain_form form) }
 {
     match form {

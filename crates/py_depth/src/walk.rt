@@ -17,7 +17,7 @@ const MOST_ANCESTORS: u32 = 100;
 
 /// What is asked of an outline: so many nodes stand above it.
 #[derive(Clone, Copy, Debug)]
-pub(crate) enum Demand {
+pub enum Demand {
     Nothing,
     Whole(u32),
     /// Its topmost node is not asked for, and so many stand above what is below.
@@ -38,7 +38,7 @@ fn one_more(above: u32) -> Result<u32, AllocError>
 }
 
 /// What is asked below a node.
-fn below(label: Label, demand: Demand) -> Result<Demand, AllocError>
+pub fn below(label: Label, demand: Demand) -> Result<Demand, AllocError>
     ensures { IfOk result (λ d. plain_demand d ≡ walking.below (plain_label label) (plain_demand demand)) }
 {
     let demand = match demand {
@@ -59,7 +59,7 @@ fn below(label: Label, demand: Demand) -> Result<Demand, AllocError>
 }
 
 /// What is asked below no node.
-fn within(demand: Demand) -> Demand
+pub fn within(demand: Demand) -> Demand
     ensures { plain_demand result ≡ walking.within (plain_demand demand) }
 {
     match demand {
@@ -72,7 +72,7 @@ fn within(demand: Demand) -> Demand
 }
 
 /// What is asked of a node that is none any more.
-fn loosened(demand: Demand) -> Demand
+pub fn loosened(demand: Demand) -> Demand
     ensures { plain_demand result ≡ walking.loosened (plain_demand demand) }
 {
     match demand {
@@ -85,7 +85,7 @@ fn loosened(demand: Demand) -> Demand
 }
 
 /// What is asked of an expression that turns out to be targets.
-fn unassigned(demand: Demand) -> Demand
+pub fn unassigned(demand: Demand) -> Demand
     ensures { plain_demand result ≡ walking.unassigned (plain_demand demand) }
 {
     match demand {
@@ -96,7 +96,7 @@ fn unassigned(demand: Demand) -> Demand
 }
 
 /// How many nodes stand above the one that comes, if one does.
-fn comes(label: Label, demand: Demand) -> Option<u32>
+pub fn comes(label: Label, demand: Demand) -> Option<u32>
     ensures { result ≡ walking.comes (plain_label label) (plain_demand demand) }
 {
     match demand {
@@ -110,7 +110,7 @@ fn comes(label: Label, demand: Demand) -> Option<u32>
 }
 
 /// Of the places that lie too deep the first, with one more node that has so many above it, if it is one.
-fn sooner(first: Option<Place>, place: Place, above: Option<u32>) -> Option<Place>
+pub fn sooner(first: Option<Place>, place: Place, above: Option<u32>) -> Option<Place>
     ensures { plain_first result ≡ first_of.sooner (plain_first first) (plain_place place) above }
 {
     match above {
@@ -170,15 +170,27 @@ fn go_back(
     Ok(first)
 }
 
+/// The first of this place and of those of nodes that have too many others above them, in what these steps put together, of which these
+/// demands are made.
+pub fn first_from(
+    events: &[Event],
+    mut demands: Vec<Demand>,
+    mut first: Option<Place>,
+) -> Result<Option<Place>, AllocError>
+    ensures { IfOk result (λ f. plain_first f ≡ first_of.first_of (plain_first first) (walking.walk (events_of events.now) (demands_of demands.items))) }
+{
+    for i in (0..events.len()).rev() {
+        first = go_back(events[i], &mut demands, first)?;
+    }
+    Ok(first)
+}
+
 /// The first place with too many nodes above it, if there is one, in what these steps put together.
+#[tactic(auto, using(crate::proofs::Demands::stacks))]
 pub(crate) fn first_too_deep(alloc: Global, events: &[Event]) -> Result<Option<Place>, AllocError>
     ensures { IfOk result (λ f. plain_first f ≡ first_of.first_in (events_of events.now)) }
 {
     let mut demands = Vec::new(alloc);
     demands.push(Demand::Whole(0))?;
-    let mut first = None;
-    for i in (0..events.len()).rev() {
-        first = go_back(events[i], &mut demands, first)?;
-    }
-    Ok(first)
+    first_from(events, demands, None)
 }

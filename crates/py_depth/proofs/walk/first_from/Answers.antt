@@ -1,9 +1,9 @@
 use Rattle.std.proofs.Common.{sym}
 use Rattle.py_depth.proofs.Demands.{begun, gone_back, gone_through}
-use Rattle.py_depth.proofs.walk.first_too_deep.Goals as goal
+use Rattle.py_depth.proofs.walk.first_from.Goals as goal
 
 pub loop-i-init : goal.loop-i-init
-loop-i-init c = begun c.args.events.now _ _ c.new-demands.ensures.items c.in_ok-push.ensures.items
+loop-i-init c = begun c.args.events.now _ _
 
 pub loop-i-preserved : goal.loop-i-preserved
 loop-i-preserved c =
