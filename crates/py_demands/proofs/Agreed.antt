@@ -1,5 +1,5 @@
 -- Where what is asked at least is what is asked when the symbols are closed, no module has a node less deep.
-use Rattle.std.proofs.Common.{◌≡◌, ℕ, suc, max, ◌<◌, ◌≤◌, Bool, true, false, List, [], ◌∷◌, length, Option, Some, None, inl, inr, refl, sym, ap, ◌∙◌, append-nil, arith}
+use Rattle.std.proofs.Common.{◌≡◌, ℕ, suc, max, ◌<◌, ◌≤◌, Bool, true, false, List, [], ◌∷◌, length, Option, Some, None, ◌⊎◌, inl, inr, refl, sym, ap, ◌∙◌, subst, append-nil, arith}
 use Rattle.py_tokens.specs.Token.{Place}
 use Rattle.py_syntax.specs.Token.{Token, At}
 use Rattle.py_syntax.specs.Table.{Symbol}
@@ -13,9 +13,9 @@ use Rattle.py_demands.specs.Asks.{of_outlines, entry_depth, tokens_depth}
 use Rattle.py_demands.specs.Least.{Ask, NoNode, AtLeast, WithinAtLeast, OpenAtLeast}
 use Rattle.py_demands.specs.AtMost.{AtMost, AreAtMost}
 use Rattle.py_demands.specs.Bound.{standing}
-use Rattle.py_demands.specs.Behind.{is_once, Behind}
+use Rattle.py_demands.specs.Behind.{heads, is_once, drops_first, Behind}
 use Rattle.py_demands.specs.Turned.{IfTurned, AreTurned}
-use Rattle.py_demands.specs.Order.{NoDeeper, AreNoDeeper}
+use Rattle.py_demands.specs.Order.{NoDeeper, AreNoDeeper, IsLone}
 use Rattle.py_demands.specs.Agreed.{IsSteady, IsReadWhole, Agrees, Agree, LeastLaw}
 use Rattle.py_demands.proofs.Lower.{turned_law}
 
@@ -121,17 +121,22 @@ all_whole v [] us (d ∷ ds) a h t = absurd h
 all_whole v (q ∷ qs) us [] a h t = absurd h
 all_whole v qs us ds a h t = absurd a
 
+-- where no token of layout is dropped next
+kept_so : (symbols : List Symbol) (v kept : Parts) → drops_first symbols ≡ false → (kept ≡ v) ⊎ ((t : Token) × (v ≡ PToken t ∷ kept) × (drops_first symbols ≡ true)) → kept ≡ v
+kept_so symbols v kept h (inl e) = e
+kept_so symbols v kept h (inr e) = let no : true ≡ false = sym e.2 ∙ h in absurd (cc)
+
 -- where one token of the front at most stands, nodes that are asked for no deeper are there as well
-pub lone_so : (front : List Token) (symbols : List Symbol) (v : Parts) → Behind front [] symbols v → (at : Place → Bool) → is_once at front ≡ true → (us ds : List Demand) → length ds ≡ length (entries_of v)
+pub lone_so : (front : List Token) (symbols : List Symbol) (v : Parts) → Behind front [] symbols v → drops_first symbols ≡ false → (at : Place → Bool) → is_once at (heads front) ≡ true → (us ds : List Demand) → length ds ≡ length (entries_of v)
     → AreRead v us ds → (depth : ℕ) → 0 < depth → standing at v ds ≤ depth → depth ≤ standing at v ds → (0 < standing at v us) × (standing at v us ≤ depth)
-lone_so front symbols v b at once us ds many w depth h k l =
+lone_so front symbols v b clear at once us ds many w depth h k l =
     let alike : standing at v w.0 ≡ standing at v ds = max_alike _ _ _ _ (w.3 at).0 (w.3 at).1 in
     let all : front ≡ b.read = b.split ∙ append-nil b.read in
     let some : 0 < standing at v w.0 = (omega arith) in
-    let r = b.lone at (ap (is_once at) (sym all) ∙ once) us w.0 (w.1 ∙ many) w.2 some in
+    let r = subst (IsLone at) (kept_so symbols v b.kept clear b.held) (b.lone at (ap (λ (l : List Token). is_once at (heads l)) (sym all) ∙ once)) us w.0 (w.1 ∙ many) w.2 some in
     (r.0, (let j = r.1 in (omega arith)))
 
 pub least_law : LeastLaw
-least_law front symbols v b a at once more body m away h =
+least_law front symbols v b a clear at once more body m away h =
     let l = turned_law front more symbols v body b.asks b.at_front m b.askable b.least_is in
-    lone_so front symbols v b at once b.demands l.0 l.1 (all_whole v b.asks b.demands l.0 a l.2 l.3) (body_depth at body) h (l.4 at).0 ((l.4 at).1 away)
+    lone_so front symbols v b clear at once b.demands l.0 l.1 (all_whole v b.asks b.demands l.0 a l.2 l.3) (body_depth at body) h (l.4 at).0 ((l.4 at).1 away)

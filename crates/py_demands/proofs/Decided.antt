@@ -62,18 +62,18 @@ are_out (part ∷ v) (aim ∷ aims) [] o h = h
 are_out v aims ds o h = absurd o
 
 pub either_law : EitherLaw
-either_law front item rest v b i us a w at once more body m away h =
+either_law front item rest v b i us a w clear at once more body m away h =
     let l = item_law front more item rest v body i b.at_front m in
     elim l.2 [
-      | inl k ↦ inl (lone_so front (item ++ Do AddItem ∷ rest) v b at once b.demands l.0 l.1 (all_whole v i.asks b.demands l.0 a k l.3) (body_depth at body) h (l.4 at).0 ((l.4 at).1 away))
-      | inr k ↦ inr (lone_so front (item ++ Do AddItem ∷ rest) v b at once us l.0 l.1 (aims_read v i.aims us l.0 w k l.3) (body_depth at body) h (l.4 at).0 ((l.4 at).1 away))
+      | inl k ↦ inl (lone_so front (item ++ Do AddItem ∷ rest) v b clear at once b.demands l.0 l.1 (all_whole v i.asks b.demands l.0 a k l.3) (body_depth at body) h (l.4 at).0 ((l.4 at).1 away))
+      | inr k ↦ inr (lone_so front (item ++ Do AddItem ∷ rest) v b clear at once us l.0 l.1 (aims_read v i.aims us l.0 w k l.3) (body_depth at body) h (l.4 at).0 ((l.4 at).1 away))
     ]
 
 pub whole_law : WholeLaw
-whole_law front item rest v b i a o at once more body m away h =
+whole_law front item rest v b i a o clear at once more body m away h =
     let l = item_law front more item rest v body i b.at_front m in
     elim l.2 [
-      | inl k ↦ lone_so front (item ++ Do AddItem ∷ rest) v b at once b.demands l.0 l.1 (all_whole v i.asks b.demands l.0 a k l.3) (body_depth at body) h (l.4 at).0 ((l.4 at).1 away)
+      | inl k ↦ lone_so front (item ++ Do AddItem ∷ rest) v b clear at once b.demands l.0 l.1 (all_whole v i.asks b.demands l.0 a k l.3) (body_depth at body) h (l.4 at).0 ((l.4 at).1 away)
       | inr k ↦ absurd (are_out v i.aims l.0 o k)
     ]
 
@@ -101,9 +101,9 @@ both_read (part ∷ v) (q ∷ qs) (u ∷ us) (w ∷ ws) [] a h t = absurd h
 both_read v qs us ws ds a h t = absurd a
 
 pub both_law : BothLaw
-both_law front symbols v b ws a at once more body m away h =
+both_law front symbols v b ws a clear at once more body m away h =
     let l = turned_law front more symbols v body b.asks b.at_front m b.askable b.least_is in
     elim (both_read v b.asks b.demands ws l.0 a l.2 l.3) [
-      | inl r ↦ inl (lone_so front symbols v b at once b.demands l.0 l.1 r (body_depth at body) h (l.4 at).0 ((l.4 at).1 away))
-      | inr r ↦ inr (lone_so front symbols v b at once ws l.0 l.1 r (body_depth at body) h (l.4 at).0 ((l.4 at).1 away))
+      | inl r ↦ inl (lone_so front symbols v b clear at once b.demands l.0 l.1 r (body_depth at body) h (l.4 at).0 ((l.4 at).1 away))
+      | inr r ↦ inr (lone_so front symbols v b clear at once ws l.0 l.1 r (body_depth at body) h (l.4 at).0 ((l.4 at).1 away))
     ]

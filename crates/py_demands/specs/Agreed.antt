@@ -14,7 +14,7 @@ use Rattle.py_nesting.specs.Walk.{Demand, Whole, Inside}
 use Rattle.py_demands.specs.Asks.{avoids}
 use Rattle.py_demands.specs.Least.{Ask, NoNode, AtLeast, WithinAtLeast, OpenAtLeast}
 use Rattle.py_demands.specs.Bound.{standing}
-use Rattle.py_demands.specs.Behind.{is_once, Behind}
+use Rattle.py_demands.specs.Behind.{heads, is_once, drops_first, Behind}
 
 -- as targets a part has the same nodes
 abbrev pub IsSteady : Option Outline → Type 0
@@ -38,11 +38,11 @@ Agree [] [] [] = Unit {0}
 Agree (part ∷ v) (q ∷ qs) (d ∷ ds) = Agrees part q d × Agree v qs ds
 Agree v qs ds = ⊥
 
--- Where both agree, and one token of the front at most stands at a place, the nodes there are in no module that begins with the front,
+-- Where both agree, and one token of the front at most stands at a place but for layout, the nodes there are in no module that begins with the front,
 -- has any there and has no other token there less deep than the closing symbols ask.
 abbrev pub LeastLaw : Type 0
 LeastLaw =
     (front : List Token) (symbols : List Symbol) (v : Parts) (b : Behind front [] symbols v) → Agree v b.asks b.demands
-    → (at : Place → Bool) → is_once at front ≡ true
+    → drops_first symbols ≡ false → (at : Place → Bool) → is_once at (heads front) ≡ true
     → (more : List Token) (body : Body) → IsModule body (front ++ more) → avoids at more ≡ true → 0 < body_depth at body
     → (0 < standing at v b.demands) × (standing at v b.demands ≤ body_depth at body)

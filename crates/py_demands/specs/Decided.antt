@@ -15,7 +15,7 @@ use Rattle.py_demands.specs.Agreed.{Agrees, Agree}
 use Rattle.py_demands.specs.Asks.{avoids}
 use Rattle.py_demands.specs.Aims.{Aim, Simply, Targets, Target, MayTarget, Never}
 use Rattle.py_demands.specs.Aimed.{ItemAsks}
-use Rattle.py_demands.specs.Behind.{is_once, Behind}
+use Rattle.py_demands.specs.Behind.{heads, is_once, drops_first, Behind}
 use Rattle.py_demands.specs.Bound.{standing}
 use Rattle.py_demands.specs.Least.{Ask, OpenAtLeast}
 
@@ -24,9 +24,9 @@ abbrev pub IsNoDeeper : (Place → Bool) → Parts → List Demand → Body → 
 IsNoDeeper at v ds body = (0 < standing at v ds) × (standing at v ds ≤ body_depth at body)
 
 -- what holds of the nodes at a place in each module that begins with the front and has some there, but none at later tokens
-abbrev pub InModules : List Token → ((Place → Bool) → Body → Type 0) → Type 0
-InModules front Holds =
-    (at : Place → Bool) → is_once at front ≡ true → (more : List Token) (body : Body) → IsModule body (front ++ more) → avoids at more ≡ true → 0 < body_depth at body → Holds at body
+abbrev pub InModules : List Token → List Symbol → ((Place → Bool) → Body → Type 0) → Type 0
+InModules front symbols Holds =
+    drops_first symbols ≡ false → (at : Place → Bool) → is_once at (heads front) ≡ true → (more : List Token) (body : Body) → IsModule body (front ++ more) → avoids at more ≡ true → 0 < body_depth at body → Holds at body
 
 -- an item has one more above it where it isn't a target
 abbrev pub AgreesAim : Part → Aim → Demand → Type 0
@@ -57,13 +57,13 @@ AreOut v aims = ⊥
 abbrev pub EitherLaw : Type 0
 EitherLaw =
     (front : List Token) (item rest : List Symbol) (v : Parts) (b : Behind front [] (item ++ Do AddItem ∷ rest) v) (i : ItemAsks item rest) (us : List Demand)
-    → Agree v i.asks b.demands → AgreeAims v i.aims us → InModules front (λ at body. IsNoDeeper at v b.demands body ⊎ IsNoDeeper at v us body)
+    → Agree v i.asks b.demands → AgreeAims v i.aims us → InModules front (item ++ Do AddItem ∷ rest) (λ at body. IsNoDeeper at v b.demands body ⊎ IsNoDeeper at v us body)
 
 -- And where it is assigned to in no module, no less deep than when the symbols are closed.
 abbrev pub WholeLaw : Type 0
 WholeLaw =
     (front : List Token) (item rest : List Symbol) (v : Parts) (b : Behind front [] (item ++ Do AddItem ∷ rest) v) (i : ItemAsks item rest)
-    → Agree v i.asks b.demands → AreOut v i.aims → InModules front (λ at body. IsNoDeeper at v b.demands body)
+    → Agree v i.asks b.demands → AreOut v i.aims → InModules front (item ++ Do AddItem ∷ rest) (λ at body. IsNoDeeper at v b.demands body)
 
 -- demands that differ in one part alone, which may be read as targets
 abbrev pub IsOpen : Ask → Demand → Demand → Type 0
@@ -78,4 +78,4 @@ AgreeBoth v qs us ws = ⊥
 abbrev pub BothLaw : Type 0
 BothLaw =
     (front : List Token) (symbols : List Symbol) (v : Parts) (b : Behind front [] symbols v) (ws : List Demand)
-    → AgreeBoth v b.asks b.demands ws → InModules front (λ at body. IsNoDeeper at v b.demands body ⊎ IsNoDeeper at v ws body)
+    → AgreeBoth v b.asks b.demands ws → InModules front symbols (λ at body. IsNoDeeper at v b.demands body ⊎ IsNoDeeper at v ws body)
