@@ -122,7 +122,7 @@ all_whole v (q ∷ qs) us [] a h t = absurd h
 all_whole v qs us ds a h t = absurd a
 
 -- where no token of layout is dropped next
-kept_so : (symbols : List Symbol) (v kept : Parts) → drops_first symbols ≡ false → (kept ≡ v) ⊎ ((t : Token) × (v ≡ PToken t ∷ kept) × (drops_first symbols ≡ true)) → kept ≡ v
+pub kept_so : (symbols : List Symbol) (v kept : Parts) → drops_first symbols ≡ false → (kept ≡ v) ⊎ ((t : Token) × (v ≡ PToken t ∷ kept) × (drops_first symbols ≡ true)) → kept ≡ v
 kept_so symbols v kept h (inl e) = e
 kept_so symbols v kept h (inr e) = let no : true ≡ false = sym e.2 ∙ h in absurd (cc)
 

@@ -21,6 +21,7 @@ pub mod Steps
 mod ItemSteps
 mod Agreed
 mod Decided
+mod FrontFirst
 mod Paired
 mod TurnedPaired
 mod DemandVectors

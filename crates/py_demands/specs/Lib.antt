@@ -13,6 +13,7 @@ pub mod Turning
 pub mod Aims
 pub mod Aimed
 pub mod Decided
+pub mod FrontDepth
 pub mod Paired
 pub mod ItemSteps
 pub mod TurnedPaired

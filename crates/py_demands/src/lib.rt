@@ -11,6 +11,7 @@ ghost use Rattle.py_demands.specs.Agreed.{LeastLaw};
 ghost use Rattle.py_demands.specs.Aimed.{ItemLaw};
 ghost use Rattle.py_demands.specs.Bound.{LowerLaw, ClosingLaw};
 ghost use Rattle.py_demands.specs.Decided.{EitherLaw, WholeLaw, BothLaw};
+ghost use Rattle.py_demands.specs.FrontDepth.{FirstLaw};
 ghost use Rattle.py_demands.specs.ItemSteps.{ItemStepsLaw};
 ghost use Rattle.py_demands.specs.Paired.{PairedLaw, SteadyLaw, AgreementLaw};
 ghost use Rattle.py_demands.specs.Steps.{StepsLaw};
@@ -109,4 +110,10 @@ pub fn pairs_are_the_two_readings()
 /// What may be one of several targets has the same nodes as one.
 pub fn a_target_has_the_same_nodes()
     ensures law { SteadyLaw }
+{}
+
+/// Where demands are met in a module that begins with a front, and no module that does has a node less deep, the first node that is met and
+/// has more than 100 others above it stands at the first place where the front is nested too deep.
+pub fn the_first_node_too_deep_is_met()
+    ensures law { FirstLaw }
 {}

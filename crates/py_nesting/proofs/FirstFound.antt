@@ -17,7 +17,7 @@ use Rattle.py_nesting.proofs.WalkCounts.{walk_counts}
 use Rattle.py_nesting.specs.First.{earlier, first_of, first_in, IsFirst, FirstLaw}
 
 -- too many nodes stand above one that is met here
-abbrev IsDeepAmong : List Met → Place → Type 0
+abbrev pub IsDeepAmong : List Met → Place → Type 0
 IsDeepAmong nodes p = suc most_ancestors < met_depth (same_place p) nodes
 
 not_before_itself : (p : Place) → is_before p p ≡ false
@@ -48,7 +48,7 @@ one_of x nodes p h = go (same_place p x.place) (nat_lt most_ancestors x.above) r
     go false c e f k = inr (omega arith)
 
 -- what is kept is the first, of the one before and of those that are met
-abbrev IsLeast : Option Place → List Met → Place → Type 0
+abbrev pub IsLeast : Option Place → List Met → Place → Type 0
 IsLeast first nodes p =
     ((first ≡ Some p) ⊎ IsDeepAmong nodes p) × ((q : Place) → first ≡ Some q → is_before q p ≡ false) × ((q : Place) → IsDeepAmong nodes q → is_before q p ≡ false)
 
@@ -85,7 +85,7 @@ first_without first x nodes p few h = (
   λ q e. either (λ s. absurd (let no : true ≡ false = sym s.1 ∙ few in cc)) (λ d. h.2 q d) (one_of x nodes q e),
 )
 
-is_least : (nodes : List Met) (first : Option Place) (p : Place) → first_of first nodes ≡ Some p → IsLeast first nodes p
+pub is_least : (nodes : List Met) (first : Option Place) (p : Place) → first_of first nodes ≡ Some p → IsLeast first nodes p
 is_least [] first p e = (inl e, (λ q f. subst (λ (z : Place). is_before z p ≡ false) (same_Some p q (sym e ∙ f)) (not_before_itself p)), λ q h. absurd (omega arith))
 is_least (x ∷ nodes) first p e = go (nat_lt most_ancestors x.above) refl e (λ o k. is_least nodes o p k)
   where
@@ -94,7 +94,7 @@ is_least (x ∷ nodes) first p e = go (nat_lt most_ancestors x.above) refl e (λ
     go true k e again = first_with first x nodes p k (again (Some (earlier first x.place)) e)
     go false k e again = first_without first x nodes p k (again first e)
 
-none_found : (nodes : List Met) (first : Option Place) → first_of first nodes ≡ None → (first ≡ None) × ((q : Place) → IsDeepAmong nodes q → ⊥)
+pub none_found : (nodes : List Met) (first : Option Place) → first_of first nodes ≡ None → (first ≡ None) × ((q : Place) → IsDeepAmong nodes q → ⊥)
 none_found [] first e = (e, λ q h. omega arith)
 none_found (x ∷ nodes) first e = go (nat_lt most_ancestors x.above) refl e (λ o k. none_found nodes o k)
   where
