@@ -20,8 +20,11 @@ use std::alloc::{AllocError, Global};
 /// What a step has come to.
 #[derive(Debug, Drop)]
 pub enum Next<'a> {
+    /// These tokens are left.
     Goes(&'a [Token]),
+    /// No symbol and no token is left.
     Done,
+    /// The first of the tokens that are left, or the end, fits nowhere.
     Stuck,
 }
 
@@ -95,9 +98,9 @@ fn finish<'a>(rest: &'a [Token]) -> Next<'a>
     }
 }
 
-/// One step of the run.
+/// One step of the run over a stack of symbols, the last of which is on top. Fails where memory runs out.
 #[tactic(auto, using(crate::proofs::SymbolStacks::stacks))]
-fn step<'a, V: Values<'a>>(
+pub fn step<'a, V: Values<'a>>(
     alloc: Global,
     symbols: &mut Vec<Symbol>,
     values: &mut V,
