@@ -47,7 +47,7 @@ one_longer (suc n) (Non x ∷ symbols) v ts w h = go (pick table sets x v (sight
     go (Some r) h again = again (r.symbols ++ symbols) h
 one_longer (suc n) (Do a ∷ symbols) v ts w h = one_longer n symbols (act a v) ts w h
 
-longer : (k n : ℕ) (symbols : List Symbol) (v : Parts) (ts : List Token) (w : Parts) → run table sets n symbols v ts ≡ Done w → run table sets (k + n) symbols v ts ≡ Done w
+pub longer : (k n : ℕ) (symbols : List Symbol) (v : Parts) (ts : List Token) (w : Parts) → run table sets n symbols v ts ≡ Done w → run table sets (k + n) symbols v ts ≡ Done w
 longer zero n symbols v ts w h = let e : zero + n ≡ n = omega arith in rw e h
 longer (suc k) n symbols v ts w h = let e : suc k + n ≡ suc (k + n) = omega arith in rw e (one_longer (k + n) symbols v ts w (longer k n symbols v ts w h))
 

@@ -1,4 +1,4 @@
 pub mod NameTexts
-mod Picked
+pub mod Picked
 pub mod SymbolStacks
 pub mod Turns

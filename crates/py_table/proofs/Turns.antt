@@ -23,7 +23,7 @@ ended_became texts Stands v symbols next.Done s h t = (h, t)
 ended_became texts Stands v symbols next.Stuck s h t = h
 
 -- the run after a step
-abbrev after : ℕ → Parts → List Token → Step → RunOutcome Token Parts
+abbrev pub after : ℕ → Parts → List Token → Step → RunOutcome Token Parts
 after n v ts (Going symbols w rest) = run table sets n symbols w rest
 after n v ts Finished = Done v
 after n v ts Halted = Stuck ts
@@ -48,7 +48,7 @@ sight_of_number (t ∷ ts) = go (kind_of t == end_number) refl
     go false e = refl
     go true e = let low : kind_of t < 95 = kind_below t in let same : kind_of t ≡ 95 = eqb-true _ _ e in absurd (omega arith)
 
-step_runs : (n : ℕ) (symbols : List Symbol) (v : Parts) (ts : List Token) → run table sets (suc n) symbols v ts ≡ after n v ts (one_step symbols v ts)
+pub step_runs : (n : ℕ) (symbols : List Symbol) (v : Parts) (ts : List Token) → run table sets (suc n) symbols v ts ≡ after n v ts (one_step symbols v ts)
 step_runs n [] v [] = refl
 step_runs n [] v (t ∷ ts) = refl
 step_runs n (Tok k ∷ symbols) v [] = refl
