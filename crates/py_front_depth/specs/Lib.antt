@@ -1,0 +1,2 @@
+pub mod PlainRoles
+pub mod Reaching
