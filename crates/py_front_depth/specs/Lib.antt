@@ -1,2 +1,3 @@
 pub mod PlainRoles
+pub mod PlainAsks
 pub mod Reaching

@@ -1,6 +1,8 @@
 //! The first place where a front of a module is nested too deep, whatever comes behind it.
 #![tactic(auto)]
 
+mod aim;
+mod ask;
 mod demands;
 mod nodes;
 mod reach;
