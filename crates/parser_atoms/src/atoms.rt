@@ -110,7 +110,11 @@ pub fn add_item(parts: &mut Vec<Part<'_>>) -> Result<(), AllocError>
             items.push(item)?;
             push(parts, Part::Expr(Expr::Tuple(place, items)))
         }
-        _other => Err(AllocError),
+        other => {
+            drop(other);
+            drop(item);
+            Err(AllocError)
+        }
     }
 }
 
@@ -152,7 +156,10 @@ pub fn make_list(parts: &mut Vec<Part<'_>>) -> Result<(), AllocError>
             parts,
             Part::Expr(Expr::List(opening.place, Some(comma), items)),
         ),
-        _other => Err(AllocError),
+        other => {
+            drop(other);
+            Err(AllocError)
+        }
     }
 }
 
@@ -186,9 +193,20 @@ pub fn add_condition(parts: &mut Vec<Part<'_>>) -> Result<(), AllocError>
     ensures { OnOk result ((texts : List (List ℕ)) → parts_of texts parts.new.items ≡ build.add_condition (parts_of texts parts.old.items)) }
 {
     let (_word, condition) = pop_value(parts)?;
-    let (place, target, iterable, mut conditions) = pop_loop(parts)?;
-    conditions.push(condition)?;
-    push(parts, Part::Loop(place, target, iterable, conditions))
+    match pop_loop(parts) {
+        Ok((place, target, iterable, mut conditions)) => match conditions.push(condition) {
+            Ok(()) => push(parts, Part::Loop(place, target, iterable, conditions)),
+            Err(error) => {
+                drop(target);
+                drop(iterable);
+                Err(error)
+            }
+        },
+        Err(error) => {
+            drop(condition);
+            Err(error)
+        }
+    }
 }
 
 /// One more loop of a comprehension.
@@ -197,15 +215,25 @@ pub fn add_loop(parts: &mut Vec<Part<'_>>) -> Result<(), AllocError>
     ensures { OnOk result ((texts : List (List ℕ)) → parts_of texts parts.new.items ≡ build.add_loop (parts_of texts parts.old.items)) }
 {
     let clause = pop_loop(parts)?;
-    match pop_expr(parts)? {
-        Expr::ListComprehension(place, element, mut loops) => {
-            loops.push(clause)?;
-            push(
-                parts,
-                Part::Expr(Expr::ListComprehension(place, element, loops)),
-            )
+    match pop_expr(parts) {
+        Ok(comprehension) => match comprehension {
+            Expr::ListComprehension(place, element, mut loops) => {
+                loops.push(clause)?;
+                push(
+                    parts,
+                    Part::Expr(Expr::ListComprehension(place, element, loops)),
+                )
+            }
+            other => {
+                drop(other);
+                drop(clause);
+                Err(AllocError)
+            }
+        },
+        Err(error) => {
+            drop(clause);
+            Err(error)
         }
-        _other => Err(AllocError),
     }
 }
 
@@ -239,12 +267,24 @@ pub fn add_pair(parts: &mut Vec<Part<'_>>) -> Result<(), AllocError>
     ensures { OnOk result ((texts : List (List ℕ)) → parts_of texts parts.new.items ≡ build.add_pair (parts_of texts parts.old.items)) }
 {
     let (key, _colon, value) = pop_operands(parts)?;
-    match pop_expr(parts)? {
-        Expr::Dict(place, mut pairs) => {
-            pairs.push((key, value))?;
-            push(parts, Part::Expr(Expr::Dict(place, pairs)))
+    match pop_expr(parts) {
+        Ok(dict) => match dict {
+            Expr::Dict(place, mut pairs) => {
+                pairs.push((key, value))?;
+                push(parts, Part::Expr(Expr::Dict(place, pairs)))
+            }
+            other => {
+                drop(other);
+                drop(key);
+                drop(value);
+                Err(AllocError)
+            }
+        },
+        Err(error) => {
+            drop(key);
+            drop(value);
+            Err(error)
         }
-        _other => Err(AllocError),
     }
 }
 
@@ -270,7 +310,10 @@ pub fn make_set(parts: &mut Vec<Part<'_>>) -> Result<(), AllocError>
     let (opening, tuple) = pop_value(parts)?;
     match tuple {
         Expr::Tuple(_comma, items) => push(parts, Part::Expr(Expr::Set(opening.place, items))),
-        _other => Err(AllocError),
+        other => {
+            drop(other);
+            Err(AllocError)
+        }
     }
 }
 

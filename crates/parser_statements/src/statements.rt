@@ -1,38 +1,22 @@
-//! The actions that build statements. Each takes what it needs from the top of the stack; where that is not there, which never
+//! The actions that build statements without bodies. Each takes what it needs from the top of the stack; where that is not there, which never
 //! comes, the answer is want of memory.
 
-ghost use Rattle.std.specs.Prelude.{ℕ, ◌≡◌, List, OnOk};
+ghost use Rattle.std.specs.Prelude.{ℕ, ◌≡◌, List, Some, IfOk, OnOk};
 ghost use Rattle.py_syntax.specs.Build as build;
+ghost use Rattle.py_lexer.specs.PlainTokens.{plain_place};
 ghost use Rattle.py_ast.specs.PlainOperators.{plain_binary};
+ghost use Rattle.py_ast.specs.PlainExprs.{plain_expr};
+ghost use Rattle.py_ast.specs.PlainTrees.{plain_target};
 ghost use Rattle.parser_parts.specs.PlainParts.{parts_of};
 
 use parser_parts::{
-    Part, one, pop_binding, pop_body, pop_branch, pop_class, pop_expr, pop_name, pop_operands,
-    pop_stmt, pop_targets, pop_token, pop_value, push,
+    Part, one, pop_expr, pop_name, pop_operands, pop_stmt, pop_targets, pop_token, pop_value, push,
 };
 use parser_targets::{start_of, target_of, targets_of};
-use py_ast::{BinaryOperator, Caught, Expr, Stmt};
+use py_ast::{BinaryOperator, Expr, Stmt, Target};
+use shed_base::Place;
 use sqlite_items::Items;
 use std::alloc::{AllocError, Global};
-
-/// A body without statements so far.
-#[tactic(auto, using(py_ast::specs::PlainTrees::plain_stmts_by_variant, py_ast::specs::PlainExprs::plain_exprs_by_variant, py_ast::proofs::Pushes::pushes))]
-pub fn begin_body(alloc: Global, parts: &mut Vec<Part<'_>>) -> Result<(), AllocError>
-    ensures { OnOk result ((texts : List (List ℕ)) → parts_of texts parts.new.items ≡ build.begin_body (parts_of texts parts.old.items)) }
-{
-    push(parts, Part::Body(Items::new(alloc)))
-}
-
-/// One more statement of a body.
-#[tactic(auto, using(py_ast::specs::PlainTrees::plain_stmts_by_variant, py_ast::specs::PlainExprs::plain_exprs_by_variant, py_ast::proofs::Pushes::pushes))]
-pub fn add_stmt(parts: &mut Vec<Part<'_>>) -> Result<(), AllocError>
-    ensures { OnOk result ((texts : List (List ℕ)) → parts_of texts parts.new.items ≡ build.add_stmt (parts_of texts parts.old.items)) }
-{
-    let statement = pop_stmt(parts)?;
-    let mut body = pop_body(parts)?;
-    body.push(statement)?;
-    push(parts, Part::Body(body))
-}
 
 /// An expression becomes a statement.
 #[tactic(auto, using(py_ast::specs::PlainTrees::plain_stmts_by_variant, py_ast::specs::PlainExprs::plain_exprs_by_variant, py_ast::proofs::Pushes::pushes))]
@@ -40,8 +24,13 @@ pub fn make_expr_stmt(parts: &mut Vec<Part<'_>>) -> Result<(), AllocError>
     ensures { OnOk result ((texts : List (List ℕ)) → parts_of texts parts.new.items ≡ build.make_expr_stmt (parts_of texts parts.old.items)) }
 {
     let expr = pop_expr(parts)?;
-    let place = start_of(&expr)?;
-    push(parts, Part::Stmt(Stmt::Expr(place, expr)))
+    match start_of(&expr) {
+        Ok(place) => push(parts, Part::Stmt(Stmt::Expr(place, expr))),
+        Err(error) => {
+            drop(expr);
+            Err(error)
+        }
+    }
 }
 
 /// `e =`, where e is targets.
@@ -51,9 +40,9 @@ pub fn make_targets(alloc: Global, parts: &mut Vec<Part<'_>>) -> Result<(), Allo
 {
     pop_token(parts)?;
     let expr = pop_expr(parts)?;
-    let place = start_of(&expr)?;
-    let targets = targets_of(alloc, expr)?;
-    push(parts, Part::Targets(place, one(alloc, targets)?))
+    let place = start_of(&expr);
+    let targets = one(alloc, targets_of(alloc, expr)?)?;
+    push(parts, Part::Targets(place?, targets))
 }
 
 /// `e =` behind other targets.
@@ -63,9 +52,16 @@ pub fn add_targets(alloc: Global, parts: &mut Vec<Part<'_>>) -> Result<(), Alloc
 {
     pop_token(parts)?;
     let expr = pop_expr(parts)?;
-    let (place, mut targets) = pop_targets(parts)?;
-    targets.push(targets_of(alloc, expr)?)?;
-    push(parts, Part::Targets(place, targets))
+    match pop_targets(parts) {
+        Ok((place, mut targets)) => {
+            targets.push(targets_of(alloc, expr)?)?;
+            push(parts, Part::Targets(place, targets))
+        }
+        Err(error) => {
+            drop(expr);
+            Err(error)
+        }
+    }
 }
 
 /// The value of an assignment.
@@ -74,8 +70,26 @@ pub fn make_assign(parts: &mut Vec<Part<'_>>) -> Result<(), AllocError>
     ensures { OnOk result ((texts : List (List ℕ)) → parts_of texts parts.new.items ≡ build.make_assign (parts_of texts parts.old.items)) }
 {
     let value = pop_expr(parts)?;
-    let (place, targets) = pop_targets(parts)?;
-    push(parts, Part::Stmt(Stmt::Assign(place, targets, value)))
+    match pop_targets(parts) {
+        Ok((place, targets)) => push(parts, Part::Stmt(Stmt::Assign(place, targets, value))),
+        Err(error) => {
+            drop(value);
+            Err(error)
+        }
+    }
+}
+
+/// A target, and where it begins.
+fn target_at(expr: Expr) -> Result<(Place, Target), AllocError>
+    ensures { IfOk result (λ r. plain_place r.0 ≡ build.start_of (plain_expr expr) × build.target_of (plain_expr expr) ≡ Some (plain_target r.1)) }
+{
+    match start_of(&expr) {
+        Ok(place) => Ok((place, target_of(expr)?)),
+        Err(error) => {
+            drop(expr);
+            Err(error)
+        }
+    }
 }
 
 /// `e += value`, where e is a target.
@@ -84,12 +98,16 @@ pub fn make_augmented(operator: BinaryOperator, parts: &mut Vec<Part<'_>>) -> Re
     ensures { OnOk result ((texts : List (List ℕ)) → parts_of texts parts.new.items ≡ build.make_augmented (plain_binary operator) (parts_of texts parts.old.items)) }
 {
     let (expr, _sign, value) = pop_operands(parts)?;
-    let place = start_of(&expr)?;
-    let target = target_of(expr)?;
-    push(
-        parts,
-        Part::Stmt(Stmt::Augmented(place, operator, target, value)),
-    )
+    match target_at(expr) {
+        Ok((place, target)) => push(
+            parts,
+            Part::Stmt(Stmt::Augmented(place, operator, target, value)),
+        ),
+        Err(error) => {
+            drop(value);
+            Err(error)
+        }
+    }
 }
 
 /// `pass`
@@ -197,11 +215,17 @@ pub fn make_assert_message(parts: &mut Vec<Part<'_>>) -> Result<(), AllocError>
     ensures { OnOk result ((texts : List (List ℕ)) → parts_of texts parts.new.items ≡ build.make_assert_message (parts_of texts parts.old.items)) }
 {
     let (test, _comma, message) = pop_operands(parts)?;
-    let word = pop_token(parts)?;
-    push(
-        parts,
-        Part::Stmt(Stmt::Assert(word.place, test, Some(message))),
-    )
+    match pop_token(parts) {
+        Ok(word) => push(
+            parts,
+            Part::Stmt(Stmt::Assert(word.place, test, Some(message))),
+        ),
+        Err(error) => {
+            drop(test);
+            drop(message);
+            Err(error)
+        }
+    }
 }
 
 /// `del e[i]`
@@ -215,124 +239,9 @@ pub fn make_delete(parts: &mut Vec<Part<'_>>) -> Result<(), AllocError>
             parts,
             Part::Stmt(Stmt::Delete(word.place, place, object, index)),
         ),
-        _other => Err(AllocError),
+        other => {
+            drop(other);
+            Err(AllocError)
+        }
     }
-}
-
-/// `if e:` with its body.
-#[tactic(auto, using(py_ast::specs::PlainTrees::plain_stmts_by_variant, py_ast::specs::PlainExprs::plain_exprs_by_variant, py_ast::proofs::Pushes::pushes))]
-pub fn make_if(parts: &mut Vec<Part<'_>>) -> Result<(), AllocError>
-    ensures { OnOk result ((texts : List (List ℕ)) → parts_of texts parts.new.items ≡ build.make_if (parts_of texts parts.old.items)) }
-{
-    let otherwise = pop_body(parts)?;
-    let (word, test, _colon, body) = pop_branch(parts)?;
-    push(
-        parts,
-        Part::Stmt(Stmt::If(word.place, test, body, otherwise)),
-    )
-}
-
-/// `elif e:` with its body, and what is done otherwise.
-#[tactic(auto, using(py_ast::specs::PlainTrees::plain_stmts_by_variant, py_ast::specs::PlainExprs::plain_exprs_by_variant, py_ast::proofs::Pushes::pushes))]
-pub fn make_elif(alloc: Global, parts: &mut Vec<Part<'_>>) -> Result<(), AllocError>
-    ensures { OnOk result ((texts : List (List ℕ)) → parts_of texts parts.new.items ≡ build.make_elif (parts_of texts parts.old.items)) }
-{
-    let otherwise = pop_body(parts)?;
-    let (word, test, _colon, body) = pop_branch(parts)?;
-    let branch = Stmt::If(word.place, test, body, otherwise);
-    push(parts, Part::Body(one(alloc, branch)?))
-}
-
-/// `else:` with its body.
-#[tactic(auto, using(py_ast::specs::PlainTrees::plain_stmts_by_variant, py_ast::specs::PlainExprs::plain_exprs_by_variant, py_ast::proofs::Pushes::pushes))]
-pub fn make_else(parts: &mut Vec<Part<'_>>) -> Result<(), AllocError>
-    ensures { OnOk result ((texts : List (List ℕ)) → parts_of texts parts.new.items ≡ build.make_else (parts_of texts parts.old.items)) }
-{
-    let body = pop_body(parts)?;
-    pop_token(parts)?;
-    pop_token(parts)?;
-    push(parts, Part::Body(body))
-}
-
-/// `while e:` with its body.
-#[tactic(auto, using(py_ast::specs::PlainTrees::plain_stmts_by_variant, py_ast::specs::PlainExprs::plain_exprs_by_variant, py_ast::proofs::Pushes::pushes))]
-pub fn make_while(parts: &mut Vec<Part<'_>>) -> Result<(), AllocError>
-    ensures { OnOk result ((texts : List (List ℕ)) → parts_of texts parts.new.items ≡ build.make_while (parts_of texts parts.old.items)) }
-{
-    let (word, test, _colon, body) = pop_branch(parts)?;
-    push(parts, Part::Stmt(Stmt::While(word.place, test, body)))
-}
-
-/// `for x in e:` with its body.
-#[tactic(auto, using(py_ast::specs::PlainTrees::plain_stmts_by_variant, py_ast::specs::PlainExprs::plain_exprs_by_variant, py_ast::proofs::Pushes::pushes))]
-pub fn make_for(parts: &mut Vec<Part<'_>>) -> Result<(), AllocError>
-    ensures { OnOk result ((texts : List (List ℕ)) → parts_of texts parts.new.items ≡ build.make_for (parts_of texts parts.old.items)) }
-{
-    let body = pop_body(parts)?;
-    pop_token(parts)?;
-    let (word, target, _in, iterable) = pop_binding(parts)?;
-    push(
-        parts,
-        Part::Stmt(Stmt::For(word.place, target, iterable, body)),
-    )
-}
-
-/// `try:` with its body, before its handlers.
-#[tactic(auto, using(py_ast::specs::PlainTrees::plain_stmts_by_variant, py_ast::specs::PlainExprs::plain_exprs_by_variant, py_ast::proofs::Pushes::pushes))]
-pub fn begin_try(alloc: Global, parts: &mut Vec<Part<'_>>) -> Result<(), AllocError>
-    ensures { OnOk result ((texts : List (List ℕ)) → parts_of texts parts.new.items ≡ build.begin_try (parts_of texts parts.old.items)) }
-{
-    let body = pop_body(parts)?;
-    pop_token(parts)?;
-    let word = pop_token(parts)?;
-    push(
-        parts,
-        Part::Stmt(Stmt::Try(word.place, body, Items::new(alloc))),
-    )
-}
-
-/// `except:` with its body.
-pub fn catch_all(parts: &mut Vec<Part<'_>>) -> Result<(), AllocError>
-    ensures { OnOk result ((texts : List (List ℕ)) → parts_of texts parts.new.items ≡ build.catch_all (parts_of texts parts.old.items)) }
-{
-    let body = pop_body(parts)?;
-    pop_token(parts)?;
-    let word = pop_token(parts)?;
-    let Stmt::Try(place, tried, mut handlers) = pop_stmt(parts)? else {
-        return Err(AllocError);
-    };
-    handlers.push((word.place, Caught::Everything, body))?;
-    push(parts, Part::Stmt(Stmt::Try(place, tried, handlers)))
-}
-
-/// `except C:` with its body.
-pub fn catch(parts: &mut Vec<Part<'_>>) -> Result<(), AllocError>
-    ensures { OnOk result ((texts : List (List ℕ)) → parts_of texts parts.new.items ≡ build.catch (parts_of texts parts.old.items)) }
-{
-    let body = pop_body(parts)?;
-    pop_token(parts)?;
-    let class = pop_class(parts)?;
-    let word = pop_token(parts)?;
-    let Stmt::Try(place, tried, mut handlers) = pop_stmt(parts)? else {
-        return Err(AllocError);
-    };
-    handlers.push((word.place, Caught::Exceptions(class, None), body))?;
-    push(parts, Part::Stmt(Stmt::Try(place, tried, handlers)))
-}
-
-/// `except C as x:` with its body.
-pub fn catch_as(parts: &mut Vec<Part<'_>>) -> Result<(), AllocError>
-    ensures { OnOk result ((texts : List (List ℕ)) → parts_of texts parts.new.items ≡ build.catch_as (parts_of texts parts.old.items)) }
-{
-    let body = pop_body(parts)?;
-    pop_token(parts)?;
-    let name = pop_name(parts)?;
-    pop_token(parts)?;
-    let class = pop_class(parts)?;
-    let word = pop_token(parts)?;
-    let Stmt::Try(place, tried, mut handlers) = pop_stmt(parts)? else {
-        return Err(AllocError);
-    };
-    handlers.push((word.place, Caught::Exceptions(class, Some(name)), body))?;
-    push(parts, Part::Stmt(Stmt::Try(place, tried, handlers)))
 }

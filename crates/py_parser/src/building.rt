@@ -11,7 +11,7 @@ ghost use Rattle.py_table.specs.PlainSymbols.{plain_guard};
 ghost use Rattle.py_table.specs.PlainTokens.{plain_tokens};
 ghost use Rattle.py_ast.specs.PlainTrees.{plain};
 
-use crate::actions::act;
+use parser_actions::act;
 use parser_parts::{Part, pop_body, push};
 use parser_targets::{are_targets, is_name, is_target};
 use py_ast::{Expr, Module};

@@ -1,7 +1,6 @@
 //! Tokens become the tree of a module.
 #![tactic(auto)]
 
-mod actions;
 mod building;
 mod parser;
 

@@ -8,6 +8,6 @@ returns-in_ok-push-in-ListComprehension c =
     on_ok_weaker c.push-in-ListComprehension.result
     (λ pushed texts.
     pushed texts
-    ∙ loop_added _ _ _ c.in_ok-clause.clause c.in_ok-_other._other c.in-ListComprehension.place c.in-ListComprehension.element c.in-ListComprehension.loops c.push.new.self
-    (c.in_ok-clause.ensures texts) (c.in_ok-_other.ensures texts) c.in-ListComprehension.is c.in_ok-push-in-ListComprehension.ensures.ok)
+    ∙ loop_added _ _ _ c.in_ok-clause.clause c.in-Ok.comprehension c.in-ListComprehension.place c.in-ListComprehension.element c.in-ListComprehension.loops c.push.new.self
+    (c.in_ok-clause.ensures texts) (c.in-Ok.ensures texts) c.in-ListComprehension.is c.in_ok-push-in-ListComprehension.ensures.ok)
     c.push-in-ListComprehension.ensures

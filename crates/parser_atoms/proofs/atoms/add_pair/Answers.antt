@@ -8,6 +8,6 @@ returns-in_ok-push-in-Dict c =
     on_ok_weaker c.push-in-Dict.result
     (λ pushed texts.
     pushed texts
-    ∙ pair_added _ _ _ c.in_ok-key.key c.in_ok-key.value c.in_ok-_other._other _ c.in-Dict.place c.in-Dict.pairs c.push.new.self
-    (c.in_ok-key.ensures texts) (c.in_ok-_other.ensures texts) c.in-Dict.is c.in_ok-push-in-Dict.ensures.ok)
+    ∙ pair_added _ _ _ c.in_ok-key.key c.in_ok-key.value c.in-Ok.dict _ c.in-Dict.place c.in-Dict.pairs c.push.new.self
+    (c.in_ok-key.ensures texts) (c.in-Ok.ensures texts) c.in-Dict.is c.in_ok-push-in-Dict.ensures.ok)
     c.push-in-Dict.ensures

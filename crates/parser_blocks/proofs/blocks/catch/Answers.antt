@@ -1,7 +1,7 @@
 use Rattle.std.proofs.Common.{◌∙◌}
 use Rattle.std.proofs.lemmas.Result.{on_ok_weaker}
-use Rattle.parser_statements.proofs.Handlers.{class_caught}
-use Rattle.parser_statements.proofs.statements.catch.Goals as goal
+use Rattle.parser_blocks.proofs.Handlers.{class_caught}
+use Rattle.parser_blocks.proofs.blocks.catch.Goals as goal
 
 pub returns : goal.returns
 returns c =

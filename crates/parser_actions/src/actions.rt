@@ -11,6 +11,11 @@ use parser_atoms::{
     make_leaf, make_list, make_list_of_one, make_loop_name, make_loop_names, make_loop_parenthesis,
     make_none, make_parenthesis, make_set, make_set_of_one, make_true, make_tuple,
 };
+use parser_blocks::{
+    add_base, add_default, add_parameter, add_stmt, begin_body, begin_class, begin_def, begin_try,
+    catch, catch_all, catch_as, end_class, end_def, make_class_name, make_class_within, make_elif,
+    make_else, make_for, make_if, make_while,
+};
 use parser_operations::{
     add_and, add_argument, add_keyword, add_link, add_or, add_upper, begin_call, make_and,
     make_attribute, make_binary, make_compare, make_conditional, make_long_sign, make_not, make_or,
@@ -18,21 +23,16 @@ use parser_operations::{
 };
 use parser_parts::Part;
 use parser_statements::{
-    add_base, add_default, add_global, add_imported, add_imported_as, add_parameter, add_stmt,
-    add_targets, begin_body, begin_class, begin_def, begin_from, begin_global, begin_import,
-    begin_try, catch, catch_all, catch_as, end_class, end_def, make_assert, make_assert_message,
-    make_assign, make_augmented, make_break, make_class_name, make_class_within, make_continue,
-    make_delete, make_elif, make_else, make_expr_stmt, make_for, make_if, make_pass, make_raise,
-    make_return, make_return_value, make_targets, make_while, make_yield,
+    add_global, add_imported, add_imported_as, add_targets, begin_from, begin_global, begin_import,
+    make_assert, make_assert_message, make_assign, make_augmented, make_break, make_continue,
+    make_delete, make_expr_stmt, make_pass, make_raise, make_return, make_return_value,
+    make_targets, make_yield,
 };
 use py_table::symbol::Action;
 use std::alloc::{AllocError, Global};
 
-pub(crate) fn act(
-    alloc: Global,
-    action: Action,
-    parts: &mut Vec<Part<'_>>,
-) -> Result<(), AllocError>
+/// What an action does to the parts.
+pub fn act(alloc: Global, action: Action, parts: &mut Vec<Part<'_>>) -> Result<(), AllocError>
     ensures { OnOk result ((texts : List (List ℕ)) → parts_of texts parts.new.items ≡ build.act (plain_action action) (parts_of texts parts.old.items)) }
 {
     match action {

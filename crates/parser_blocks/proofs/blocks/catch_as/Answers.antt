@@ -1,7 +1,7 @@
 use Rattle.std.proofs.Common.{◌∙◌}
 use Rattle.std.proofs.lemmas.Result.{on_ok_weaker}
-use Rattle.parser_statements.proofs.Handlers.{named_caught}
-use Rattle.parser_statements.proofs.statements.catch_as.Goals as goal
+use Rattle.parser_blocks.proofs.Handlers.{named_caught}
+use Rattle.parser_blocks.proofs.blocks.catch_as.Goals as goal
 
 pub returns : goal.returns
 returns c =
