@@ -5,8 +5,8 @@ use Rattle.shed_base.specs.Files.{Files}
 use Rattle.py_meaning.specs.Name.{Name}
 use Rattle.shed_meaning.specs.Words.{reading}
 use Rattle.shed_meaning.specs.Outcome.{World, Cause, Translated, Unread, Missing, TooLarge, Faulty, ReadFailed, WriteFailed, OutOfMemory, status_of, message_of, with_files, Yields, BreaksOff, Says, Ends}
-use Rattle.shed_cli.specs.declared.file.File.{File as FileToWrite}
-use Rattle.shed_cli.specs.Plain.{plain_files}
+use Rattle.cpp_text.specs.declared.file.File.{File as FileToWrite}
+use Rattle.cpp_text.specs.Plain.{plain_files}
 use Rattle.shed_cli.specs.Judging.{IsRefusal}
 
 -- the message of a cause is said

@@ -10,8 +10,8 @@ use Rattle.shed_base.specs.Files.{Files, told_with_file, WritesFile}
 use Rattle.shed_base.proofs.ToldBytes.{appended_slice}
 use Rattle.cpp_meaning.specs.Text.{File}
 use Rattle.shed_meaning.specs.Outcome.{with_files, BreaksOff}
-use Rattle.shed_cli.specs.declared.file.File.{File as FileToWrite}
-use Rattle.shed_cli.specs.Plain.{plain_file, plain_files}
+use Rattle.cpp_text.specs.declared.file.File.{File as FileToWrite}
+use Rattle.cpp_text.specs.Plain.{plain_file, plain_files}
 
 -- a piece of which some front was taken, at a call that fails
 pub front_taken : (refusal : IoRefusal) (before between after : Option (List ℕ)) (piece : List ℕ) (done : ℕ) → between ≡ appended before (take done piece) → (IsErrOf {T = ℕ} (Err refusal) Failed → (n : ℕ) × (after ≡ appended between (take n (take (length piece - done) (drop done piece))))) → (IsErrOf {T = ℕ} (Err refusal) NoMemory → after ≡ between) → (n : ℕ) × (after ≡ appended before (take n piece))

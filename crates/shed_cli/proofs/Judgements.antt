@@ -9,8 +9,8 @@ use Rattle.py_meaning.specs.Source.{most_bytes}
 use Rattle.shed_meaning.specs.Fault.{fault_place, located}
 use Rattle.shed_cli.specs.declared.judgement.Judgement.{Judgement}
 use Rattle.shed_cli.specs.declared.judgement.Judgement.TheVariants as judged
-use Rattle.shed_cli.specs.Faults.{IsFaultOf}
-use Rattle.shed_cli.specs.declared.fault.Fault.{Fault as FaultSaid}
+use Rattle.shed_source.specs.Faults.{IsFaultOf}
+use Rattle.shed_source.specs.declared.fault.Fault.{Fault as FaultSaid}
 use Rattle.shed_cli.specs.Judging.{IsRefusal, Judged, IsTextRefusal, JudgedText, RefusesFor, IsFaulty}
 
 refused_text : (words : List (List ℕ)) (files : Option Files) (name : Name) (text : List ℕ) (cause : Cause) → reading words ≡ Some name

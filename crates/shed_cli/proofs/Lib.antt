@@ -1,10 +1,6 @@
-pub mod CppViews
-pub mod FilesGrow
 pub mod Appends
 pub mod FilesWritten
 pub mod WordsRead
 pub mod Judgements
 pub mod Endings
 pub mod CausesFollow
-pub mod TokensNumbered
-pub mod SourceRead

@@ -11,10 +11,10 @@ use Rattle.cpp_meaning.specs.Text.{File}
 use Rattle.shed_meaning.specs.Headline.{Headline}
 use Rattle.shed_meaning.specs.Fault.{HasFault, located}
 use Rattle.py_lexer.specs.PlainTokens.{plain_place}
-use Rattle.shed_cli.specs.Faults.{status_said}
-use Rattle.shed_cli.specs.declared.fault.Fault.{Fault as FaultSaid}
+use Rattle.shed_source.specs.Faults.{status_said}
+use Rattle.shed_source.specs.declared.fault.Fault.{Fault as FaultSaid}
 use Rattle.shed_meaning.specs.Outcome.{Cause, Missing, TooLarge, Faulty, status_of, message_of, program, GivesModule, Yields}
-use Rattle.shed_cli.specs.Plain.{plain_files}
+use Rattle.cpp_text.specs.Plain.{plain_files}
 use Rattle.shed_cli.specs.declared.status.Status.{Status}
 use Rattle.shed_cli.specs.declared.status.Status.TheVariants as status
 use Rattle.shed_cli.specs.declared.judgement.Judgement.{Judgement}

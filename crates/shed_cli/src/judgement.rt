@@ -1,7 +1,7 @@
 //! What the command finds out before it writes anything.
 
-use crate::file::File;
 use crate::status::Status;
+use cpp_text::file::File;
 
 /// Why nothing is to be written, or the files that are.
 #[derive(Debug, Drop)]

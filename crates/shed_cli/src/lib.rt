@@ -1,11 +1,7 @@
 //! The command `shed`: reads its words, translates a module and writes the files.
 #![tactic(auto)]
 
-mod cpp_text;
-mod fault;
-mod file;
 mod judgement;
-mod source;
 mod status;
 mod tables;
 mod top;

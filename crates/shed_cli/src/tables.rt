@@ -4,11 +4,11 @@ ghost use Rattle.std.specs.Prelude.{◌≡◌, ◌++◌, codes, map, IfOk, OnOk,
 ghost use Rattle.runs.specs.Number.{W32};
 ghost use Rattle.py_built.specs.PlainTrees.{plain};
 ghost use Rattle.shed_meaning.specs.Table.{global_line, global_lines, table, makefile};
-ghost use Rattle.shed_cli.specs.Plain.{plain_file};
+ghost use Rattle.cpp_text.specs.Plain.{plain_file};
 
-use crate::cpp_text::file_name;
-use crate::file::File;
 use cpp_emit::names_bound;
+use cpp_text::file::File;
+use cpp_text::file_name;
 use py_built::tree::Module;
 use std::alloc::{AllocError, Global};
 

@@ -8,20 +8,20 @@ ghost use Rattle.shed_base.specs.Outside.{Rose};
 ghost use Rattle.shed_meaning.specs.Outcome.{GivesModule, Missing, TooLarge};
 ghost use Rattle.shed_cli.specs.Judging.{IsFaulty};
 ghost use Rattle.py_lexer.specs.PlainTokens.{plain_place};
-ghost use Rattle.shed_cli.specs.Plain.{plain_files};
+ghost use Rattle.cpp_text.specs.Plain.{plain_files};
 ghost use Rattle.shed_cli.specs.Judging.{Judged, JudgedText, RefusesFor, IsTranslation};
 
-use crate::cpp_text::{cpp_files, file_name};
-use crate::fault::Fault;
-use crate::file::File;
 use crate::judgement::Judgement;
-use crate::source::read_source;
 use crate::status::Status;
 use crate::tables::{make_file, types_table};
 use crate::words::read_words;
 use cpp_emit::emit;
+use cpp_text::file::File;
+use cpp_text::{cpp_files, file_name};
 use py_built::tree::Module;
 use shed_base::{Folder, IoRefusal, NoMemory};
+use shed_source::fault::Fault;
+use shed_source::read_source;
 use std::alloc::{AllocError, Global};
 
 // The most bytes of a module.

@@ -3,11 +3,11 @@
 ghost use Rattle.std.specs.Prelude.{◌≡◌, ℕ, ◌≤◌, take, length, IfOk, IfErr, OnOk, OnErr, IsErrOf, ◌⊎◌};
 ghost use Rattle.shed_base.specs.Outside.{Rose, appended};
 ghost use Rattle.shed_meaning.specs.Outcome.{with_files, BreaksOff, Says};
-ghost use Rattle.shed_cli.specs.Plain.{plain_files};
+ghost use Rattle.cpp_text.specs.Plain.{plain_files};
 ghost use Rattle.shed_cli.specs.Judging.{number_of};
 
-use crate::file::File;
 use crate::status::Status;
+use cpp_text::file::File;
 use shed_base::{Folder, IoRefusal, Sink};
 
 /// Writes a message to err, and answers the status that is wanted, or that of a write that failed.

@@ -1,5 +1,5 @@
 use Rattle.std.proofs.Common.{List, ℕ, ◌++◌, ap, ◌∙◌}
-use Rattle.shed_cli.proofs.Appends.{five_pieces}
+use Rattle.cpp_text.proofs.Appends.{five_pieces}
 use Rattle.shed_cli.proofs.tables.push_global.Goals as goal
 
 pub returns : goal.returns

@@ -1,7 +1,7 @@
 use Rattle.std.proofs.Common.{refl, subst}
 use Rattle.std.specs.Prelude.{IfErr}
 use Rattle.shed_meaning.specs.Outcome.{TooLarge}
-use Rattle.shed_cli.specs.Faults.{IsFaultOf}
+use Rattle.shed_source.specs.Faults.{IsFaultOf}
 use Rattle.shed_cli.proofs.Judgements.{text_refused, text_faulty}
 use Rattle.shed_cli.proofs.translation.judge_text.Goals as goal
 

@@ -1,6 +1,6 @@
 use Rattle.std.proofs.Common.{◌≡◌, ◌≤◌, take}
 use Rattle.shed_meaning.specs.Outcome.{with_files}
-use Rattle.shed_cli.specs.Plain.{plain_files}
+use Rattle.cpp_text.specs.Plain.{plain_files}
 use Rattle.shed_cli.proofs.writing.write_files.Given as goal
 
 abbrev pub invariant-loop-file : goal.invariant-loop-file

@@ -1,0 +1,3 @@
+pub mod CppViews
+pub mod FilesGrow
+pub mod Appends

@@ -1,0 +1,11 @@
+use Rattle.std.proofs.Common.{refl}
+use Rattle.std.specs.Prelude.{map}
+use Rattle.cpp_meaning.specs.Text.{source_file, source_files}
+use Rattle.cpp_ast.specs.Plain.{plain_module}
+use Rattle.cpp_text.proofs.FilesGrow.{files_step}
+use Rattle.cpp_text.proofs.text.push_sources.Goals as goal
+
+pub loop-module-preserved : goal.loop-module-preserved
+loop-module-preserved c =
+    let all = map plain_module c.args.modules.now in
+    files_step (λ m. source_file all (plain_module m)) (λ ms. source_files all (map plain_module ms)) (λ m ms. refl) _ _ _ c.in_ok-source_of.field-0 c.args.modules.now c.loop-module.module-index c.module-item.result c.loop-module-test.true c.module-item.is c.in_ok-push.ensures.items c.in_ok-source_of.ensures c.loop-module.invariant

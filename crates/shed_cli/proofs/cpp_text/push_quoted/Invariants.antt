@@ -1,6 +1,0 @@
-use Rattle.std.proofs.Common.{◌≡◌, ◌++◌, drop}
-use Rattle.cpp_meaning.specs.Text.{quoted}
-use Rattle.shed_cli.proofs.cpp_text.push_quoted.Given as goal
-
-abbrev pub invariant-loop-character : goal.invariant-loop-character
-invariant-loop-character l = l.out.items ++ quoted (drop l.character-index l.text) ≡ l.initial.out.items ++ quoted l.text

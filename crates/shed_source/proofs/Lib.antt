@@ -1,0 +1,2 @@
+pub mod TokensNumbered
+pub mod SourceRead
