@@ -1,3 +1,4 @@
 pub mod PlainRoles
 pub mod PlainAsks
+pub mod PlainLeasts
 pub mod Reaching

@@ -4,6 +4,7 @@
 mod aim;
 mod ask;
 mod demands;
+mod leasts;
 mod nodes;
 mod reach;
 mod role;
