@@ -2,3 +2,4 @@ pub mod PlainRoles
 pub mod PlainAsks
 pub mod PlainLeasts
 pub mod Reaching
+pub mod Reading

@@ -7,5 +7,6 @@ mod demands;
 mod leasts;
 mod nodes;
 mod reach;
+mod reading;
 mod role;
 mod roles;
