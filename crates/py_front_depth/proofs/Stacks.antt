@@ -1,11 +1,14 @@
 -- The stacks have their top at the end.
-use Rattle.std.proofs.Common.{◌≡◌, ℕ, zero, suc, ◌-◌, ◌+◌, ◌<◌, ◌≤◌, Bool, true, false, List, [], ◌∷◌, ◌++◌, map, length, take, drop, get_or, Option, Some, None, refl, sym, ap, ◌∙◌, arith, drop-cons}
+use Rattle.std.proofs.Common.{◌≡◌, ℕ, zero, suc, ◌-◌, ◌+◌, ◌<◌, ◌≤◌, Bool, true, false, ◌||◌, List, [], ◌∷◌, ◌++◌, map, length, take, drop, get_or, Option, Some, None, refl, sym, ap, ◌∙◌, arith, drop-cons}
 use Rattle.std.proofs.Math.Seq.{take-suc, take-length}
 use Rattle.std.proofs.lemmas.List.{reverse-append}
 use Rattle.py_syntax.specs.Build.{Action, Drop}
 use Rattle.py_syntax.specs.Table as meaning
 use Rattle.py_nesting.specs.Walk as walking
 use Rattle.py_demands.specs.Roles as asking
+use Rattle.py_demands.specs.Aims as aims
+use Rattle.py_demands.specs.Readings.{has_never}
+use Rattle.py_front_depth.specs.Reading.{is_never_so}
 use Rattle.py_demands.specs.Closing.{exactly, exactly_by, exactly_before, exactly_symbol}
 use Rattle.py_depth.specs.PlainDemands.{plain_demand, demands_of}
 use Rattle.py_depth.specs.declared.walk.Demand.{Demand}
@@ -13,7 +16,10 @@ use Rattle.py_depth.specs.declared.walk.Demand.TheVariants as demand
 use Rattle.py_table.specs.PlainSymbols.{plain_symbol}
 use Rattle.py_table.specs.Steps.{stack_of}
 use Rattle.py_table.specs.declared.symbol.Symbol.{Symbol}
+use Rattle.py_front_depth.specs.PlainAsks.{plain_ask, plain_aim, asks_of, aims_of}
 use Rattle.py_front_depth.specs.PlainRoles.{plain_role, plain_roles}
+use Rattle.py_front_depth.specs.declared.aim.Aim.{Aim}
+use Rattle.py_front_depth.specs.declared.ask.Ask.{Ask}
 use Rattle.py_front_depth.specs.declared.role.Role.{Role}
 
 pub demands_of-push : (xs : List Demand) (x : Demand) → demands_of (xs ++ x ∷ []) ≡ plain_demand x ∷ demands_of xs
@@ -32,17 +38,38 @@ pub stack_of-nothing : stack_of [] ≡ []
 unfolding stack_of
 stack_of-nothing = refl
 
-pub ruleset stacks = (demands_of-push, demands_of-nothing, stack_of-push, stack_of-nothing)
+pub asks_of-push : (xs : List Ask) (x : Ask) → asks_of (xs ++ x ∷ []) ≡ plain_ask x ∷ asks_of xs
+unfolding asks_of
+asks_of-push xs x = ap (map plain_ask) (reverse-append xs (x ∷ []))
+
+pub asks_of-nothing : asks_of [] ≡ []
+unfolding asks_of
+asks_of-nothing = refl
+
+pub aims_of-push : (xs : List Aim) (x : Aim) → aims_of (xs ++ x ∷ []) ≡ plain_aim x ∷ aims_of xs
+unfolding aims_of
+aims_of-push xs x = ap (map plain_aim) (reverse-append xs (x ∷ []))
+
+pub aims_of-nothing : aims_of [] ≡ []
+unfolding aims_of
+aims_of-nothing = refl
+
+pub ruleset stacks = (demands_of-push, demands_of-nothing, stack_of-push, stack_of-nothing, asks_of-push, asks_of-nothing, aims_of-push, aims_of-nothing)
+
+-- one more of what is put on top from its end
+pub one_before : {A B C : Type 0} (go : B → C) (plain : A → B) (these : List A) (i : ℕ) (d : A) (now : List C) (next : C) (below : List C) → 0 < i → i ≤ length these
+    → now ≡ map go (map plain (drop i these)) ++ below → next ≡ go (plain (get_or these (i - 1) d)) → next ∷ now ≡ map go (map plain (drop (i - 1) these)) ++ below
+one_before go plain these zero d now next below p q h e = absurd (omega arith)
+one_before go plain these (suc i) d now next below p q h e =
+    let less : i < length these = omega arith in
+    let one : suc i - 1 ≡ i = omega arith in
+    rw (one, drop-cons these i d) (ap (λ x. x ∷ now) (e ∙ ap (λ (n : ℕ). go (plain (get_or these n d))) one) ∙ ap (λ l. go (plain (get_or these i d)) ∷ l) h)
 
 -- one role more
 pub asked_before : (roles : List Role) (i : ℕ) (d : Role) (asked : walking.Demand) (now : List walking.Demand) (next : walking.Demand) (below : List walking.Demand) → 0 < i → i ≤ length roles
     → now ≡ map (asking.asked_by asked) (plain_roles (drop i roles)) ++ below → next ≡ asking.asked_by asked (plain_role (get_or roles (i - 1) d))
     → next ∷ now ≡ map (asking.asked_by asked) (plain_roles (drop (i - 1) roles)) ++ below
-asked_before roles zero d asked now next below p q h e = absurd (omega arith)
-asked_before roles (suc i) d asked now next below p q h e =
-    let less : i < length roles = omega arith in
-    let one : suc i - 1 ≡ i = omega arith in
-    rw (one, drop-cons roles i d) (ap (λ (x : walking.Demand). x ∷ now) (e ∙ ap (λ (n : ℕ). asking.asked_by asked (plain_role (get_or roles n d))) one) ∙ ap (λ (l : List walking.Demand). asking.asked_by asked (plain_role (get_or roles i d)) ∷ l) h)
+asked_before roles i d asked now next below p q h e = one_before (asking.asked_by asked) plain_role roles i d now next below p q h e
 
 -- an action that isn't `Drop`
 pub by_roles : (a : Action) (d : walking.Demand) (ds : List walking.Demand) → (a ≡ Drop → ⊥) → exactly_by a (d ∷ ds) ≡ Some (map (asking.asked_by d) (asking.roles a) ++ ds)
@@ -73,3 +100,30 @@ all_back symbols i start now p q h =
 pub stack_of-none : (xs : List Symbol) → length xs ≡ 0 → stack_of xs ≡ []
 stack_of-none [] h = stack_of-nothing
 stack_of-none (x ∷ xs) h = absurd (omega arith)
+
+-- whether one of some is none that may be
+pub never_joined : (these those : List aims.Aim) → has_never those ≡ false → has_never (these ++ those) ≡ has_never these
+never_joined [] those h = h
+never_joined (aims.Never ∷ these) those h = refl
+never_joined (aims.Simply q ∷ these) those h = never_joined these those h
+never_joined (aims.Targets n ∷ these) those h = never_joined these those h
+never_joined (aims.Target n ∷ these) those h = never_joined these those h
+never_joined (aims.MayTarget n ∷ these) those h = never_joined these those h
+
+pub never_first : (a : aims.Aim) (these : List aims.Aim) → has_never (a ∷ these) ≡ (is_never_so a || has_never these)
+never_first aims.Never these = refl
+never_first (aims.Simply q) these = refl
+never_first (aims.Targets n) these = refl
+never_first (aims.Target n) these = refl
+never_first (aims.MayTarget n) these = refl
+
+-- with one more on top
+pub one_may_be_never : (before now all : Bool) (a : aims.Aim) (below above : List aims.Aim) → all ≡ (before || now) → before ≡ has_never below → now ≡ is_never_so a → above ≡ a ∷ below → all ≡ has_never above
+one_may_be_never before now all a below above o e f g =
+    o ∙ either_way before now ∙ ap (λ (b : Bool). b || before) f ∙ ap (λ (b : Bool). is_never_so a || b) e ∙ sym (never_first a below) ∙ ap has_never (sym g)
+  where
+    either_way : (b c : Bool) → (b || c) ≡ (c || b)
+    either_way true true = refl
+    either_way true false = refl
+    either_way false true = refl
+    either_way false false = refl

@@ -1,3 +1,5 @@
 pub mod PlainRoles
 pub mod PlainAsks
+pub mod PlainLeasts
 pub mod Reaching
+pub mod Reading

@@ -4,7 +4,9 @@
 mod aim;
 mod ask;
 mod demands;
+mod leasts;
 mod nodes;
 mod reach;
+mod reading;
 mod role;
 mod roles;
