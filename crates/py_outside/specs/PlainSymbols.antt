@@ -49,6 +49,8 @@ plain_name name.Raised = meaning.Raised
 plain_name name.RaisedTail = meaning.RaisedTail
 plain_name name.Yielded = meaning.Yielded
 plain_name name.Deleted = meaning.Deleted
+plain_name name.DeletedSlice = meaning.DeletedSlice
+plain_name name.BindingEnd = meaning.BindingEnd
 plain_name name.Assigned = meaning.Assigned
 plain_name name.RightSide = meaning.RightSide
 plain_name name.UpperEnd = meaning.UpperEnd
@@ -124,6 +126,9 @@ plain_action action.Head = value.Head
 plain_action action.Hold = value.Hold
 plain_action action.Forget = value.Forget
 plain_action action.Plain = value.Plain
+plain_action action.TellTargets = value.TellTargets
+plain_action action.TellLoop = value.TellLoop
+plain_action action.HoldSlice = value.HoldSlice
 
 abbrev pub plain_guard : Guard → PlainGuard value.Value
 plain_guard guard.Always = Always

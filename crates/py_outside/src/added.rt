@@ -32,6 +32,7 @@ pub(crate) fn rows_added(construct: Construct) -> &'static [AddedRow]
         Construct::SeveralBases => added_members::SEVERAL_BASES_ROWS,
         Construct::ClassKeyword => added_members::CLASS_KEYWORD_ROWS,
         Construct::SliceStep => added_statements::SLICE_STEP_ROWS,
+        Construct::SliceTarget => added_statements::SLICE_TARGET_ROWS,
         Construct::LoopElse => added_statements::LOOP_ELSE_ROWS,
         Construct::TryElse => added_statements::TRY_ELSE_ROWS,
         Construct::Finally => added_statements::FINALLY_ROWS,
@@ -54,6 +55,7 @@ pub(crate) fn rows_added(construct: Construct) -> &'static [AddedRow]
         Construct::RaiseFrom => added_parts::RAISE_FROM_ROWS,
         Construct::ExceptTuple => added_parts::EXCEPT_TUPLE_ROWS,
         Construct::DeleteName => added_parts::DELETE_NAME_ROWS,
+        Construct::NestedTarget => added_parts::NESTED_TARGET_ROWS,
         Construct::StarredTarget => added_parts::STARRED_TARGET_ROWS,
         Construct::Ellipsis => added_parts::ELLIPSIS_ROWS,
     }

@@ -30,6 +30,9 @@ fn rows_of_nonterminal(nonterminal: Nonterminal) -> Rows
         Nonterminal::Small => Rows::Own(changed_rows::SMALL_ROWS),
         Nonterminal::SmallTail => Rows::Own(changed_rows::SMALL_TAIL_ROWS),
         Nonterminal::AssignTail => Rows::Own(changed_rows::ASSIGN_TAIL_ROWS),
+        Nonterminal::DeletedSubscript => Rows::Own(changed_rows::DELETED_SUBSCRIPT_ROWS),
+        Nonterminal::DeletedSubscriptTail => Rows::Own(changed_rows::DELETED_SUBSCRIPT_TAIL_ROWS),
+        Nonterminal::Binding => Rows::Own(changed_rows::BINDING_ROWS),
         Nonterminal::Upper => Rows::Own(changed_rows::UPPER_ROWS),
         Nonterminal::ArgumentTail => Rows::Own(changed_rows::ARGUMENT_TAIL_ROWS),
         Nonterminal::Atom => Rows::Own(changed_rows::ATOM_ROWS),
@@ -66,9 +69,6 @@ fn rows_of_nonterminal(nonterminal: Nonterminal) -> Rows
         | Nonterminal::DeletedTail
         | Nonterminal::DeletedAttribute
         | Nonterminal::DeletedEnd
-        | Nonterminal::DeletedSubscript
-        | Nonterminal::DeletedSubscriptTail
-        | Nonterminal::Binding
         | Nonterminal::BindingTail
         | Nonterminal::BindingMore
         | Nonterminal::BindingNext
@@ -155,6 +155,8 @@ pub(crate) fn rows_of(name: Name) -> Rows
         Name::RaisedTail => Rows::Own(place_rows::RAISED_TAIL_ROWS),
         Name::Yielded => Rows::Own(place_rows::YIELDED_ROWS),
         Name::Deleted => Rows::Own(place_rows::DELETED_ROWS),
+        Name::DeletedSlice => Rows::Own(place_rows::DELETED_SLICE_ROWS),
+        Name::BindingEnd => Rows::Own(place_rows::BINDING_END_ROWS),
         Name::Assigned => Rows::Own(place_rows::ASSIGNED_ROWS),
         Name::RightSide => Rows::Own(place_rows::RIGHT_SIDE_ROWS),
         Name::UpperEnd => Rows::Own(place_rows::UPPER_END_ROWS),
