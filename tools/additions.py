@@ -402,6 +402,7 @@ def write_rows(grammar, source):
 
 ghost use Rattle.std.specs.Prelude.{{◌≡◌}};
 ghost use Rattle.py_constructs.specs.Table.{{rows_of as rows_of_name, rows_between}};
+ghost use Rattle.py_constructs.specs.Values.{{Widening}};
 ghost use Rattle.py_table.specs.PlainSymbols.{{plain_nonterminal}};
 ghost use Rattle.py_outside.specs.PlainSymbols.{{plain_name, plain_rows}};
 
@@ -412,7 +413,7 @@ use py_table::symbol::Nonterminal;
 
 /// The rows of one of the profile's nonterminals.
 fn rows_of_nonterminal(nonterminal: Nonterminal) -> Rows
-    ensures {{ plain_rows result ≡ rows_between (plain_nonterminal nonterminal) }}
+    ensures {{ (w : Widening) → plain_rows w result ≡ rows_between w (plain_nonterminal nonterminal) }}
 {{
     match nonterminal {{
 """]
@@ -424,7 +425,7 @@ fn rows_of_nonterminal(nonterminal: Nonterminal) -> Rows
 
 /// The rows of a name.
 pub(crate) fn rows_of(name: Name) -> Rows
-    ensures { plain_rows result ≡ rows_of_name (plain_name name) }
+    ensures { (w : Widening) → plain_rows w result ≡ rows_of_name w (plain_name name) }
 {
     match name {
         Name::Profile(nonterminal) => rows_of_nonterminal(nonterminal),
@@ -465,22 +466,34 @@ def write_added(grammar, source, nullable, first, follow):
     out = [f"""//! The rows that each construct adds. {HEADER}
 
 ghost use Rattle.std.specs.Prelude.{{◌≡◌, map}};
-ghost use Rattle.py_constructs.specs.Table.{{additions}};
+ghost use Rattle.py_constructs.specs.Table.{{additions, widening_of}};
 ghost use Rattle.py_outside.specs.PlainConstructs.{{plain_construct}};
 ghost use Rattle.py_outside.specs.PlainSymbols.{{plain_added}};
+ghost use Rattle.py_outside.specs.PlainValues.{{plain_widening}};
 ghost use Rattle.py_outside.specs.Sights.{{spread}};
 
 use crate::construct::Construct;
 use crate::symbol::AddedRow;
+use crate::targets::Widening;
 use crate::{{{', '.join(sorted(set(places.values())))}}};
 
 pub(crate) fn rows_added(construct: Construct) -> &'static [AddedRow]
-    ensures {{ map plain_added result.now ≡ spread (additions (plain_construct construct)) }}
+    ensures {{ map (plain_added (widening_of (additions (plain_construct construct)))) result.now ≡ spread (additions (plain_construct construct)) }}
 {{
     match construct {{
 """]
     out += [f"        Construct::{names[c]} => {places[c]}::{constant_name(names[c])}_ROWS,\n" for c in grammar.added]
-    out.append("    }\n}\n")
+    out.append("""    }
+}
+
+/// What a construct lets be targets besides the profile's.
+pub(crate) fn widening_by(construct: Construct) -> Widening
+    ensures { plain_widening result ≡ widening_of (additions (plain_construct construct)) }
+{
+    match construct {
+""")
+    out += [f"        Construct::{names[c]} => Widening::{w},\n" for c, w in grammar.widenings.items()]
+    out.append("        " + " | ".join(f"Construct::{names[c]}" for c in grammar.added if c not in grammar.widenings) + " => Widening::Nothing,\n    }\n}\n")
     (source / "added.rt").write_text("".join(out))
 
 
@@ -588,22 +601,22 @@ plain_name (name.Profile x) = meaning.Profile (profile.plain_nonterminal x)
     out += [f"plain_name name.{x} = meaning.{x}\n" for x in grammar.places]
     out.append("\nabbrev pub plain_action : Action → value.Action\nplain_action (action.Own a) = value.Own (profile.plain_action a)\n")
     out += [f"plain_action action.{a} = value.{a}\n" for a in OWN_ACTIONS]
-    out.append(table.symbol_views(GUARDS, "value", "plain_name", "value.Value", "meaning.Name value.Action value.Value"))
+    out.append(table.symbol_views(GUARDS, "value", "plain_name", "value.Value", "meaning.Name value.Action value.Value", WIDE_GUARDS, "value.Widening → ", " w"))
     out.append("""
 -- a row of the profile's table, without its guard
 abbrev pub plain_profile_row : ProfileRow → PlainRow meaning.Name value.Action value.Value
 plain_profile_row r = meaning.row (map meaning.profile_symbol (profile.plain_symbols r.symbols.now))
 
-abbrev pub plain_taken : Taken → PlainRow meaning.Name value.Action value.Value
-plain_taken (taken.Profile r) = plain_profile_row r.now
-plain_taken (taken.Own r) = plain_row r.now
+abbrev pub plain_taken : value.Widening → Taken → PlainRow meaning.Name value.Action value.Value
+plain_taken w (taken.Profile r) = plain_profile_row r.now
+plain_taken w (taken.Own r) = plain_row w r.now
 
-abbrev pub plain_rows : Rows → List (PlainRow meaning.Name value.Action value.Value)
-plain_rows (rows.Profile l) = meaning.profile_rows (map profile.plain_row l.now)
-plain_rows (rows.Own l) = map plain_row l.now
+abbrev pub plain_rows : value.Widening → Rows → List (PlainRow meaning.Name value.Action value.Value)
+plain_rows w (rows.Profile l) = meaning.profile_rows (map profile.plain_row l.now)
+plain_rows w (rows.Own l) = map (plain_row w) l.now
 
-abbrev pub plain_added : AddedRow → Added
-plain_added r = record { name = meaning.number_of (plain_name r.name); sights = map sight_numbered r.sights.now; row = plain_row r.row }
+abbrev pub plain_added : value.Widening → AddedRow → Added
+plain_added w r = record { name = meaning.number_of (plain_name r.name); sights = map sight_numbered r.sights.now; row = plain_row w r.row }
 """)
     (source.parent / "specs/PlainSymbols.antt").write_text("".join(out))
 

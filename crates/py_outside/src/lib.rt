@@ -24,6 +24,7 @@ mod statement_rows;
 pub mod symbol;
 pub mod table;
 mod target_rows;
+mod targets;
 pub mod value;
 
 pub use search::find_outside;

@@ -2,6 +2,7 @@
 
 ghost use Rattle.std.specs.Prelude.{◌≡◌};
 ghost use Rattle.py_constructs.specs.Table.{rows_of as rows_of_name, rows_between};
+ghost use Rattle.py_constructs.specs.Values.{Widening};
 ghost use Rattle.py_table.specs.PlainSymbols.{plain_nonterminal};
 ghost use Rattle.py_outside.specs.PlainSymbols.{plain_name, plain_rows};
 
@@ -12,7 +13,7 @@ use py_table::symbol::Nonterminal;
 
 /// The rows of one of the profile's nonterminals.
 fn rows_of_nonterminal(nonterminal: Nonterminal) -> Rows
-    ensures { plain_rows result ≡ rows_between (plain_nonterminal nonterminal) }
+    ensures { (w : Widening) → plain_rows w result ≡ rows_between w (plain_nonterminal nonterminal) }
 {
     match nonterminal {
         Nonterminal::Compound => Rows::Own(changed_rows::COMPOUND_ROWS),
@@ -126,7 +127,7 @@ fn rows_of_nonterminal(nonterminal: Nonterminal) -> Rows
 
 /// The rows of a name.
 pub(crate) fn rows_of(name: Name) -> Rows
-    ensures { plain_rows result ≡ rows_of_name (plain_name name) }
+    ensures { (w : Widening) → plain_rows w result ≡ rows_of_name w (plain_name name) }
 {
     match name {
         Name::Profile(nonterminal) => rows_of_nonterminal(nonterminal),
