@@ -247,7 +247,7 @@ OWN_ACTIONS = {
     "Forget": "Drops the last item.",
     "Plain": "The last expression is no target.",
     "TellTargets": "The last token tells the head of the targets before it.",
-    "TellLoop": "The last token tells that the first bracket of the loop is the head.",
+    "TellLoop": "The last token tells that the first bracket of the loop is the head, or one round the loop that may be a target.",
     "HoldSlice": "The last slice is the head, if another token comes.",
 }
 

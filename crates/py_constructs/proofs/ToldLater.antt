@@ -5,7 +5,7 @@ use Rattle.grammars.specs.Grammar.{Tok, Non, Do}
 use Rattle.grammars.specs.Derivation.{Derives}
 use Rattle.py_syntax.specs.Token.{Token}
 use Rattle.py_constructs.specs.Construct.{Construct}
-use Rattle.py_constructs.specs.Values.{Numbered, Told, Value, told_so, last_token, head_of_last, less, take_in, Own, Head, Hold, Forget, Plain, TellTargets, TellLoop, HoldSlice, act}
+use Rattle.py_constructs.specs.Values.{Numbered, Told, Value, told_so, last_token, head_of_last, loop_head, less, take_in, Own, Head, Hold, Forget, Plain, TellTargets, TellLoop, HoldSlice, act}
 use Rattle.py_constructs.specs.Table.{Symbol, extended}
 use Rattle.py_constructs.specs.Reached.{heads_follow, settled}
 use Rattle.py_constructs.proofs.HeadsFollow.{headed_row, headed_later, headed_joined}
@@ -50,7 +50,7 @@ settled_stays (Do Hold ∷ symbols) v t e = e
 settled_stays (Do Forget ∷ symbols) v t e = e
 settled_stays (Do Plain ∷ symbols) v t e = e
 settled_stays (Do TellTargets ∷ symbols) v t e = settled_with v (head_of_last (less 1 v.items)) t e
-settled_stays (Do TellLoop ∷ symbols) v t e = settled_with v v.bracket t e
+settled_stays (Do TellLoop ∷ symbols) v t e = settled_with v (loop_head v.left.here.head v.bracket) t e
 settled_stays (Do HoldSlice ∷ symbols) v t e = e
 settled_stays (Do (Own a) ∷ symbols) v t e = e
 
@@ -71,7 +71,7 @@ known_now (Do Hold ∷ symbols) v t h e = h t e
 known_now (Do Forget ∷ symbols) v t h e = h t e
 known_now (Do Plain ∷ symbols) v t h e = h t e
 known_now (Do TellTargets ∷ symbols) v t h e = known_with v (head_of_last (less 1 v.items)) t h e
-known_now (Do TellLoop ∷ symbols) v t h e = known_with v v.bracket t h e
+known_now (Do TellLoop ∷ symbols) v t h e = known_with v (loop_head v.left.here.head v.bracket) t h e
 known_now (Do HoldSlice ∷ symbols) v t h e = h t e
 known_now (Do (Own a) ∷ symbols) v t h e = h t e
 

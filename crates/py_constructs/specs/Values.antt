@@ -1,6 +1,6 @@
 -- What is kept of a text while the profile's grammar with a construct added is read: what the parts may be as far as rows ask for it,
 -- and the construct's head, once it is told.
-use Rattle.std.specs.Prelude.{ℕ, zero, suc, Bool, true, false, ◌&&◌, ◌==◌, if◌then◌else◌, List, [], ◌∷◌, Option, Some, None}
+use Rattle.std.specs.Prelude.{ℕ, zero, suc, nat_lt, Bool, true, false, ◌&&◌, ◌==◌, if◌then◌else◌, List, [], ◌∷◌, Option, Some, None}
 use Rattle.py_tokens.specs.Token.{Place}
 use Rattle.py_syntax.specs.Token.{Token as SourceToken, At}
 use Rattle.py_syntax.specs.Kinds.{kind_of}
@@ -60,6 +60,34 @@ pub record Told : Type 0 where
   pub head : Numbered
   pub known : ℕ
 
+-- what a token is to what may stand at the left of an assignment
+pub data Mark : Type 0 where
+  -- a name or a literal
+  Word : Mark
+  Dot : Mark
+  -- a round or a square bracket that opens
+  Bracket : Mark
+  Brace : Mark
+  Closing : Mark
+  Comma : Mark
+  -- what stands between lines, statements and the sides of an assignment
+  Break : Mark
+  Sign : Mark
+
+-- what stands in a bracket, or in none, if it is all at the left of an assignment
+pub record Level : Type 0 where
+  -- it may be targets
+  pub may : Bool
+  -- the first bracket that is one of several
+  pub head : Option Numbered
+
+-- the level here and those of the brackets round it, the last first
+pub record Left : Type 0 where
+  pub here : Level
+  -- a target has begun
+  pub begun : Bool
+  pub outer : List Level
+
 pub record Value : Type 0 where
   -- how many tokens were read
   pub read : ℕ
@@ -69,11 +97,15 @@ pub record Value : Type 0 where
   pub held : Option Numbered
   -- the first bracket that was opened behind the last `for`
   pub bracket : Option Numbered
+  pub left : Left
   -- the last first
   pub items : List Item
 
+abbrev pub at_left : Left
+at_left = record { here = record { may = true; head = None }; begun = false; outer = [] }
+
 abbrev pub begin : Value
-begin = record { read = 0; told = None; held = None; bracket = None; items = [] }
+begin = record { read = 0; told = None; held = None; bracket = None; left = at_left; items = [] }
 
 -- the first that is told stays
 abbrev pub first_told : Option Told → Told → Option Told
@@ -98,12 +130,77 @@ bracket_with LoopToken t o = None
 bracket_with OpenToken t None = Some t
 bracket_with s t o = o
 
+-- by the number of its kind
+abbrev pub mark_of : ℕ → Mark
+mark_of k =
+    if nat_lt k 4 then Word else (if nat_lt k 8 then Sign else (if nat_lt k 11 then Break else (if nat_lt k 14 then Word else (
+    if k == 81 then Bracket else (if k == 83 then Bracket else (if k == 85 then Brace else (
+    if k == 82 then Closing else (if k == 84 then Closing else (if k == 86 then Closing else (
+    if k == 87 then Comma else (if k == 89 then Dot else (if k == 88 then Break else (if k == 90 then Break else (if k == 91 then Break else Sign))))))))))))))
+
+abbrev pub first_of : Option Numbered → Numbered → Option Numbered
+first_of None t = Some t
+first_of (Some s) t = Some s
+
+abbrev pub head_round : List Level → Option Numbered
+head_round [] = None
+head_round (l ∷ outer) = l.head
+
+-- what is no target, here
+abbrev pub spoilt : Left → Left
+spoilt s = record { here = record { may = false; head = head_round s.outer }; begun = false; outer = s.outer }
+
+-- in a bracket where targets may be
+abbrev pub in_bracket : Level → Numbered → Level
+in_bracket l t = if l.may then record { may = true; head = first_of l.head t } else l
+
+abbrev pub in_part : Level → Level
+in_part l = record { may = false; head = l.head }
+
+-- with one target more
+abbrev pub with_part : Targets → Left → Left
+with_part NoTargets s = spoilt s
+with_part OwnTargets s = record { here = s.here; begun = false; outer = s.outer }
+with_part (SlicedTargets t) s = spoilt s
+with_part (NestedTargets t) s = record { here = in_bracket s.here t; begun = false; outer = s.outer }
+
+abbrev pub without_level : Left → List Level → Left
+without_level s [] = record { here = s.here; begun = true; outer = [] }
+without_level s (l ∷ outer) = record { here = l; begun = true; outer = outer }
+
+abbrev pub begun_anew : Left → List Level → Left
+begun_anew s [] = at_left
+begun_anew s (l ∷ outer) = spoilt s
+
+-- behind a token, before which these targets stand
+abbrev pub left_with : Mark → Targets → Numbered → Left → Left
+left_with Word p t s = record { here = s.here; begun = true; outer = s.outer }
+left_with Dot p t s = s
+left_with Bracket p t s = record { here = if s.begun then in_part s.here else in_bracket s.here t; begun = false; outer = s.here ∷ s.outer }
+left_with Brace p t s = record { here = in_part s.here; begun = false; outer = s.here ∷ s.outer }
+left_with Closing p t s = without_level s s.outer
+left_with Comma p t s = with_part p s
+left_with Break p t s = begun_anew s s.outer
+left_with Sign p t s = spoilt s
+
+-- one target or some, before a comma
+abbrev pub part_in : Targets → Targets → Targets
+part_in NoTargets whole = whole
+part_in OwnTargets whole = OwnTargets
+part_in (SlicedTargets t) whole = SlicedTargets t
+part_in (NestedTargets t) whole = NestedTargets t
+
+abbrev pub last_part : List Item → Targets
+last_part (Expression r ∷ items) = part_in r.item r.whole
+last_part items = NoTargets
+
 abbrev pub take_in : SourceToken → Value → Value
 take_in t v = record {
   read = suc v.read;
   told = told_so v.told v.held (suc v.read);
   held = None;
   bracket = bracket_with (sort_of (kind_of t)) (record { number = v.read; place = place_of t }) v.bracket;
+  left = left_with (mark_of (kind_of t)) (last_part v.items) (record { number = v.read; place = place_of t }) v.left;
   items = Token (sort_of (kind_of t)) v.read (place_of t) ∷ v.items;
 }
 
@@ -279,7 +376,7 @@ pub data Action : Type 0 where
   Plain : Action
   -- the last token tells the head of the targets before it
   TellTargets : Action
-  -- the last token tells that the first bracket of the loop is the head
+  -- the last token tells that the first bracket of the loop is the head, or one round the loop that may be a target
   TellLoop : Action
   -- the last slice is the head, if another token comes
   HoldSlice : Action
@@ -304,15 +401,19 @@ abbrev pub head_of_last : List Item → Option Numbered
 head_of_last (Expression r ∷ items) = head_in r.whole
 head_of_last items = None
 
+abbrev pub loop_head : Option Numbered → Option Numbered → Option Numbered
+loop_head None bracket = bracket
+loop_head (Some head) bracket = Some head
+
 abbrev pub with_items : Value → List Item → Value
-with_items v items = record { read = v.read; told = v.told; held = v.held; bracket = v.bracket; items = items }
+with_items v items = record { read = v.read; told = v.told; held = v.held; bracket = v.bracket; left = v.left; items = items }
 
 -- where a head is told
 abbrev pub with_head : Value → Option Numbered → Value
-with_head v head = record { read = v.read; told = told_so v.told head v.read; held = v.held; bracket = v.bracket; items = v.items }
+with_head v head = record { read = v.read; told = told_so v.told head v.read; held = v.held; bracket = v.bracket; left = v.left; items = v.items }
 
 abbrev pub with_held : Value → Option Numbered → Value
-with_held v head = record { read = v.read; told = v.told; held = head; bracket = v.bracket; items = v.items }
+with_held v head = record { read = v.read; told = v.told; held = head; bracket = v.bracket; left = v.left; items = v.items }
 
 abbrev pub act : Action → Value → Value
 act (Own a) v = with_items v (made a v.items)
@@ -321,7 +422,7 @@ act Hold v = with_held v (last_token v.items)
 act Forget v = with_items v (less 1 v.items)
 act Plain v = with_items v (plain ∷ less 1 v.items)
 act TellTargets v = with_head v (head_of_last (less 1 v.items))
-act TellLoop v = with_head v v.bracket
+act TellLoop v = with_head v (loop_head v.left.here.head v.bracket)
 act HoldSlice v = with_held v (head_of_last v.items)
 
 abbrev pub of_expression : (Reading → Bool) → List Item → Bool
