@@ -164,23 +164,31 @@ with_part OwnTargets s = record { here = s.here; begun = false; outer = s.outer 
 with_part (SlicedTargets t) s = spoilt s
 with_part (NestedTargets t) s = record { here = in_bracket s.here t; begun = false; outer = s.outer }
 
-abbrev pub without_level : Left → List Level → Left
-without_level s [] = record { here = s.here; begun = true; outer = [] }
-without_level s (l ∷ outer) = record { here = l; begun = true; outer = outer }
+-- where a bracket opens
+abbrev pub opened : Level → Left → Left
+opened l s = record { here = l; begun = false; outer = s.here ∷ s.outer }
 
-abbrev pub begun_anew : Left → List Level → Left
-begun_anew s [] = at_left
-begun_anew s (l ∷ outer) = spoilt s
+-- and where it closes
+abbrev pub closed : Left → List Level → Left
+closed s [] = record { here = s.here; begun = true; outer = [] }
+closed s (l ∷ outer) = record { here = l; begun = true; outer = outer }
+
+abbrev pub is_within : List Level → Bool
+is_within [] = false
+is_within (l ∷ outer) = true
+
+abbrev pub anew : Left → Left
+anew s = record { here = record { may = true; head = None }; begun = false; outer = s.outer }
 
 -- behind a token, before which these targets stand
 abbrev pub left_with : Mark → Targets → Numbered → Left → Left
 left_with Word p t s = record { here = s.here; begun = true; outer = s.outer }
 left_with Dot p t s = s
-left_with Bracket p t s = record { here = if s.begun then in_part s.here else in_bracket s.here t; begun = false; outer = s.here ∷ s.outer }
-left_with Brace p t s = record { here = in_part s.here; begun = false; outer = s.here ∷ s.outer }
-left_with Closing p t s = without_level s s.outer
+left_with Bracket p t s = opened (if s.begun then in_part s.here else in_bracket s.here t) s
+left_with Brace p t s = opened (in_part s.here) s
+left_with Closing p t s = closed s s.outer
 left_with Comma p t s = with_part p s
-left_with Break p t s = begun_anew s s.outer
+left_with Break p t s = if is_within s.outer then spoilt s else anew s
 left_with Sign p t s = spoilt s
 
 -- one target or some, before a comma

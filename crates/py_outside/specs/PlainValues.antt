@@ -1,5 +1,5 @@
 -- What is kept of a text, as the plain values that definitions speak of. The stack of items has its last at the end.
-use Rattle.std.specs.Prelude.{false, List, ◌∷◌, map, reverse}
+use Rattle.std.specs.Prelude.{◌≡◌, false, List, [], ◌∷◌, map, reverse, Option, Some, None}
 use Rattle.std.specs.Option.{option_map}
 use Rattle.py_constructs.specs.Values as meaning
 use Rattle.py_lexer.specs.PlainTokens.{plain_place}
@@ -9,6 +9,10 @@ use Rattle.py_outside.specs.declared.item.Reading.{Reading}
 use Rattle.py_outside.specs.declared.item.Numbered.{Numbered}
 use Rattle.py_outside.specs.declared.item.Item.{Item}
 use Rattle.py_outside.specs.declared.item.Item.TheVariants as item
+use Rattle.py_outside.specs.declared.left.Mark.{Mark}
+use Rattle.py_outside.specs.declared.left.Mark.TheVariants as mark
+use Rattle.py_outside.specs.declared.left.Level.{Level}
+use Rattle.py_outside.specs.declared.left.Left.{Left}
 use Rattle.py_outside.specs.declared.targets.Targets.{Targets}
 use Rattle.py_outside.specs.declared.targets.Targets.TheVariants as targets
 use Rattle.py_outside.specs.declared.targets.Widening.{Widening}
@@ -50,11 +54,36 @@ plain_item item.Other = meaning.Other
 unfoldable pub items_of : List Item → List meaning.Item
 items_of items = map plain_item (reverse items)
 
+abbrev pub plain_mark : Mark → meaning.Mark
+plain_mark mark.Word = meaning.Word
+plain_mark mark.Dot = meaning.Dot
+plain_mark mark.Bracket = meaning.Bracket
+plain_mark mark.Brace = meaning.Brace
+plain_mark mark.Closing = meaning.Closing
+plain_mark mark.Comma = meaning.Comma
+plain_mark mark.Break = meaning.Break
+plain_mark mark.Sign = meaning.Sign
+
+abbrev pub plain_level : Level → meaning.Level
+plain_level l = record { may = l.may; head = option_map plain_numbered l.head }
+
+-- the last first
+unfoldable pub levels_of : List Level → List meaning.Level
+levels_of levels = map plain_level (reverse levels)
+
+abbrev pub plain_left : Left → meaning.Left
+plain_left s = record { here = plain_level s.here; begun = s.begun; outer = levels_of s.outer.items }
+
+-- what was on top of a stack, and what is left of it
+abbrev pub IsPopped : List meaning.Level → Option meaning.Level → List meaning.Level → Type 0
+IsPopped levels None others = (levels ≡ []) × (others ≡ [])
+IsPopped levels (Some l) others = levels ≡ l ∷ others
+
 abbrev pub plain_told : Told → meaning.Told
 plain_told t = record { head = plain_numbered t.head; known = t.known }
 
 abbrev pub plain_value : Value → meaning.Value
-plain_value v = record { read = v.read; told = option_map plain_told v.told; held = option_map plain_numbered v.held; bracket = option_map plain_numbered v.bracket; items = items_of v.items.items }
+plain_value v = record { read = v.read; told = option_map plain_told v.told; held = option_map plain_numbered v.held; bracket = option_map plain_numbered v.bracket; left = plain_left v.left; items = items_of v.items.items }
 
 -- what the last item may be, where it is an expression
 abbrev pub last_reading : List meaning.Item → meaning.Reading

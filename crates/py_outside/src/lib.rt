@@ -12,6 +12,7 @@ mod changed_rows;
 pub mod construct;
 pub mod item;
 mod kind_numbers;
+pub mod left;
 mod made;
 mod name_numbers;
 mod place_rows;

@@ -118,7 +118,7 @@ pub enum Action {
     Plain,
     /// The last token tells the head of the targets before it.
     TellTargets,
-    /// The last token tells that the first bracket of the loop is the head.
+    /// The last token tells that the first bracket of the loop is the head, or one round the loop that may be a target.
     TellLoop,
     /// The last slice is the head, if another token comes.
     HoldSlice,

@@ -2,7 +2,7 @@
 
 ghost use Rattle.std.specs.Prelude.{◌≡◌};
 ghost use Rattle.std.specs.Option.{option_map};
-ghost use Rattle.py_constructs.specs.Values.{are_own as are_own_of, among as among_of, together as together_of, head_in as head_in_of, are_wide as are_wide_of, is_wide as is_wide_of};
+ghost use Rattle.py_constructs.specs.Values.{are_own as are_own_of, among as among_of, together as together_of, head_in as head_in_of, are_wide as are_wide_of, is_wide as is_wide_of, part_in as part_in_of};
 ghost use Rattle.py_outside.specs.PlainValues.{plain_numbered, plain_targets, plain_widening};
 
 use crate::item::Numbered;
@@ -79,6 +79,18 @@ pub(crate) fn head_in(targets: Targets) -> Option<Numbered>
         Targets::Own => None,
         Targets::Sliced(head) => Some(head),
         Targets::Nested(head) => Some(head),
+    }
+}
+
+/// One target or some, before a comma.
+pub(crate) fn part_in(item: Targets, whole: Targets) -> Targets
+    ensures { plain_targets result ≡ part_in_of (plain_targets item) (plain_targets whole) }
+{
+    match item {
+        Targets::No => whole,
+        Targets::Own => Targets::Own,
+        Targets::Sliced(head) => Targets::Sliced(head),
+        Targets::Nested(head) => Targets::Nested(head),
     }
 }
 

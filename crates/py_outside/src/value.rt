@@ -6,15 +6,16 @@ ghost use Rattle.std.specs.Option.{option_map};
 ghost use Rattle.grammars.specs.Grammar.{allows};
 ghost use Rattle.py_syntax.specs.Token.{Token};
 ghost use Rattle.py_syntax.specs.Kinds.{kind_of};
-ghost use Rattle.py_constructs.specs.Values.{begin, sort_of as sort_of_kind, place_of, take_in, bracket_with as bracket_after, act as act_on, told_so as told_as, last_token as last_token_of, less, head_of_last as head_of_last_of, is_class_bare as is_bare_of, is_call_fresh as is_fresh_of, are_open as are_open_of, are_open_targets as are_open_targets_of};
+ghost use Rattle.py_constructs.specs.Values.{begin, sort_of as sort_of_kind, place_of, take_in, bracket_with as bracket_after, act as act_on, told_so as told_as, last_token as last_token_of, less, last_part as last_part_of, loop_head as loop_head_of, head_of_last as head_of_last_of, is_class_bare as is_bare_of, is_call_fresh as is_fresh_of, are_open as are_open_of, are_open_targets as are_open_targets_of};
 ghost use Rattle.py_lexer.specs.PlainTokens.{plain_place};
 ghost use Rattle.py_outside.specs.PlainSymbols.{plain_action, plain_guard};
-ghost use Rattle.py_outside.specs.PlainValues.{plain_sort, plain_reading, plain_numbered, plain_widening, plain_told, plain_value, items_of, last_reading as last_reading_of};
+ghost use Rattle.py_outside.specs.PlainValues.{plain_sort, plain_reading, plain_numbered, plain_targets, plain_widening, plain_told, plain_value, items_of, last_reading as last_reading_of};
 
 use crate::item::{Item, Numbered, PLAIN, Reading, TokenSort, forget, put, replace};
+use crate::left::{Left, mark_of};
 use crate::made::make;
 use crate::symbol::{Action, Guard};
-use crate::targets::{Targets, Widening, are_own, are_wide, head_in, is_wide};
+use crate::targets::{Targets, Widening, are_own, are_wide, head_in, is_wide, part_in};
 use shed_base::Place;
 use std::alloc::{AllocError, Global};
 
@@ -36,6 +37,7 @@ pub struct Value {
     pub(crate) held: Option<Numbered>,
     /// The first bracket that was opened behind the last `for`.
     pub(crate) bracket: Option<Numbered>,
+    pub(crate) left: Left,
     /// The last on top.
     pub(crate) items: Vec<Item>,
 }
@@ -132,6 +134,28 @@ fn head_of_last(items: &[Item]) -> Option<Numbered>
     }
 }
 
+/// What was read last at the left of an assignment.
+#[tactic(auto, using(crate::proofs::Items::stacks))]
+fn last_part(items: &[Item]) -> Targets
+    ensures { plain_targets result ≡ last_part_of (items_of items.now) }
+{
+    match items.split_last() {
+        Some((Item::Expression(reading), _)) => part_in(reading.item, reading.whole),
+        Some(_) => Targets::No,
+        None => Targets::No,
+    }
+}
+
+/// The head in a loop: one round it, or its first bracket.
+fn loop_head(head: Option<Numbered>, bracket: Option<Numbered>) -> Option<Numbered>
+    ensures { option_map plain_numbered result ≡ loop_head_of (option_map plain_numbered head) (option_map plain_numbered bracket) }
+{
+    match head {
+        Some(head) => Some(head),
+        None => bracket,
+    }
+}
+
 /// The same of the last item but one.
 #[tactic(auto, using(crate::proofs::Items::stacks))]
 fn head_before_last(items: &[Item]) -> Option<Numbered>
@@ -210,6 +234,7 @@ impl Value {
             told: None,
             held: None,
             bracket: None,
+            left: Left::new(alloc),
             items: Vec::new(alloc),
         }
     }
@@ -226,6 +251,7 @@ impl Value {
             told: self.told,
             held: self.held,
             bracket: self.bracket,
+            left: self.left.copied(alloc)?,
             items: Vec::from_slice(alloc, &self.items)?,
         })
     }
@@ -251,6 +277,8 @@ impl Value {
             place,
         };
         let sort = sort_of(kind);
+        self.left
+            .read(mark_of(kind), last_part(&self.items), token)?;
         put(&mut self.items, Item::Token(sort, token))?;
         self.told = told_so(self.told, self.held, read);
         self.held = None;
@@ -285,7 +313,11 @@ impl Value {
                 Ok(())
             }
             Action::TellLoop => {
-                self.told = told_so(self.told, self.bracket, self.read);
+                self.told = told_so(
+                    self.told,
+                    loop_head(self.left.here.head, self.bracket),
+                    self.read,
+                );
                 Ok(())
             }
             Action::HoldSlice => {

@@ -344,8 +344,8 @@ const SLICES: [(&str, &str); 25] = [
     ("for a[1:2] in b: pass\n", "1:6 ["),
 ];
 
-// Brackets as one of several targets. Behind `for` a comma may yet come after the first.
-const BRACKETS: [(&str, &str); 31] = [
+// Brackets as one of several targets. Behind `for` a comma may yet come after the first, and the brackets round may be targets.
+const BRACKETS: [(&str, &str); 41] = [
     ("(a, (b, c)) = x\n", "1:5 outside nested-target"),
     ("(a, b), c = x\n", "1:1 outside nested-target"),
     ("((a, b), c), d = x\n", "1:1 outside nested-target"),
@@ -383,6 +383,46 @@ const BRACKETS: [(&str, &str); 31] = [
     ("for a, (b.c) in x: pass\n", "1:8 outside nested-target"),
     ("for (a) in (b, c): pass\n", "module"),
     ("del (a, b), [c]\n", "1:1 outside del-name"),
+    (
+        "x = [[a for b, (c, d) in e] for f in g]\n",
+        "1:5 outside nested-target",
+    ),
+    (
+        "x = [(1 + [a for [b, c] in d]).e]\n",
+        "1:5 outside nested-target",
+    ),
+    (
+        "x = y, [[a for (b, c), d in e]]\n",
+        "1:8 outside nested-target",
+    ),
+    (
+        "x = (a, b), [c for d, (e, f) in g]\n",
+        "1:5 outside nested-target",
+    ),
+    (
+        "x = [y + [a for b, (c, d) in e]]\n",
+        "1:20 outside nested-target",
+    ),
+    (
+        "x = f([[a for b, (c, d) in e]])\n",
+        "1:18 outside nested-target",
+    ),
+    (
+        "x = [1, [a for b, (c, d) in e]]\n",
+        "1:19 outside nested-target",
+    ),
+    (
+        "x = -[[a for b, (c, d) in e]]\n",
+        "1:17 outside nested-target",
+    ),
+    (
+        "x = {a: [[b for c, (d, e) in f]]}\n",
+        "1:20 outside nested-target",
+    ),
+    (
+        "return [[a for b, (c, d) in e]]\n",
+        "1:19 outside nested-target",
+    ),
 ];
 
 // Two constructs in one module, in both orders.
