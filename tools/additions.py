@@ -38,9 +38,9 @@ def read_rows(right):
 
 
 def read_additions():
-    """The profile's rows that stand here anew, the places, and the rows added by construct and nonterminal."""
+    """The profile's rows that stand here anew, the places, the rows added by construct and nonterminal, and which targets become more."""
     text = "\n".join(line for line in (HERE / "additions.txt").read_text().splitlines() if not line.startswith("#"))
-    part, own, places, added = None, {}, {}, {}
+    part, own, places, added, widenings = None, {}, {}, {}, {}
     for line in re.sub(r"\n +", " ", text).splitlines():
         if line.startswith("=="):
             part = line[3:].strip()
@@ -49,15 +49,17 @@ def read_additions():
             if part == "additions":
                 construct, nonterminal = left.split()
                 added.setdefault(construct, {}).setdefault(nonterminal, []).extend(read_rows(right))
+            elif part == "widenings":
+                widenings[left] = right.strip()
             else:
                 {"own": own, "places": places}[part][left] = read_rows(right)
-    return own, places, added
+    return own, places, added, widenings
 
 
 class Grammar:
     def __init__(self):
         self.profile = table.read_grammar()
-        self.own, self.places, self.added = read_additions()
+        self.own, self.places, self.added, self.widenings = read_additions()
         self.names = list(self.profile) + list(self.places)
         self.rows = {x: self.own.get(x) or self.places.get(x) or self.profile[x] for x in self.names}
         for rows in self.with_all().values():
@@ -98,7 +100,7 @@ def antt_symbol(grammar, symbol):
         return f"Tok {number_of(text)}"
     if sort == "non":
         return f"Non (Profile t.{text})" if text in grammar.profile else f"Non {text}"
-    if text in ("Head", "Hold", "Forget", "Plain"):
+    if text in OWN_ACTIONS:
         return f"Do {text}"
     m = re.match(r"(\w+)\((\w+)\)", text)
     return f"Do (Own (b.{m.group(1)} {m.group(2)}))" if m else f"Do (Own b.{text})"
@@ -108,7 +110,9 @@ def antt_row(grammar, row):
     guard, symbols = row
     listed = " ∷ ".join([antt_symbol(grammar, s) for s in symbols] + ["[]"])
     shown = listed if listed == "[]" else f"({listed})"
-    return f"row {shown}" if guard is None else f"guarded {guard} {shown}"
+    if guard is None:
+        return f"row {shown}"
+    return f"guarded ({guard} w) {shown}" if guard.endswith("_with") else f"guarded {guard} {shown}"
 
 
 def antt_rows(grammar, rows):
@@ -135,7 +139,7 @@ use Rattle.py_syntax.specs.Tree.{{{", ".join(arguments)}}}
 use Rattle.py_syntax.specs.Build as b
 use Rattle.py_syntax.specs.Table as t
 use Rattle.py_constructs.specs.Construct as c
-use Rattle.py_constructs.specs.Values.{{Value, take_in, Action, Own, Head, Hold, Forget, Plain, act, {", ".join(guards)}}}
+use Rattle.py_constructs.specs.Values.{{Value, take_in, Action, Own, {", ".join(OWN_ACTIONS)}, act, Widening, NoWidening, {", ".join([*sorted(set(grammar.widenings.values())), *guards])}}}
 
 pub data Name : Type 0 where
   Profile : (nonterminal : t.Nonterminal) → Name
@@ -161,15 +165,16 @@ abbrev pub profile_rows : List (Row t.Nonterminal b.Action b.Parts) → List (Ro
 profile_rows [] = []
 profile_rows (r ∷ rows) = row (map profile_symbol r.symbols) ∷ profile_rows rows
 
-abbrev pub rows_between : t.Nonterminal → List (Row Name Action Value)
+-- by what else targets may be
+abbrev pub rows_between : Widening → t.Nonterminal → List (Row Name Action Value)
 """)
     for x in own:
         lines = [antt_row(grammar, r) for r in grammar.own[x]] + ["[]"]
-        out.append(f"rows_between t.{x} =\n    " + "\n    ∷ ".join(lines) + "\n")
-    out.append("rows_between x = profile_rows (t.rows x)\n\nabbrev pub rows_of : Name → List (Row Name Action Value)\nrows_of (Profile x) = rows_between x\n")
+        out.append(f"rows_between w t.{x} =\n    " + "\n    ∷ ".join(lines) + "\n")
+    out.append("rows_between w x = profile_rows (t.rows x)\n\nabbrev pub rows_of : Widening → Name → List (Row Name Action Value)\nrows_of w (Profile x) = rows_between w x\n")
     for x, rows in grammar.places.items():
         lines = [antt_row(grammar, r) for r in rows] + ["[]"]
-        out.append(f"rows_of {x} =\n    " + "\n    ∷ ".join(lines) + "\n")
+        out.append(f"rows_of w {x} =\n    " + "\n    ∷ ".join(lines) + "\n")
     out.append("\n-- numbers tell names apart\nabbrev pub number_of : Name → ℕ\n")
     numbers = {x: i for i, x in enumerate(grammar.names)}
     out += [f"number_of {'(Profile t.' + x + ')' if x in grammar.profile else x} = {i}\n" for x, i in numbers.items()]
@@ -177,12 +182,16 @@ abbrev pub rows_between : t.Nonterminal → List (Row Name Action Value)
     out.append("""
 pub data Addition : Type 0 where
   to : (name : Name) → (rows : List (Row Name Action Value)) → Addition
+  -- more may be targets
+  widened : (by : Widening) → Addition
 
 -- what each construct adds
 abbrev pub additions : c.Construct → List Addition
 """)
     for printed, by in grammar.added.items():
         lines = []
+        if printed in grammar.widenings:
+            lines.append(f"widened {grammar.widenings[printed]}")
         for x, rows in by.items():
             name = f"(Profile t.{x})" if x in grammar.profile else x
             lines.append(f"to {name} ({antt_rows(grammar, rows)})")
@@ -191,9 +200,15 @@ abbrev pub additions : c.Construct → List Addition
 abbrev pub added_to : ℕ → List Addition → List (Row Name Action Value)
 added_to n [] = []
 added_to n (to x rows ∷ more) = if number_of x == n then rows ++ added_to n more else added_to n more
+added_to n (widened w ∷ more) = added_to n more
+
+abbrev pub widening_of : List Addition → Widening
+widening_of [] = NoWidening
+widening_of (to x rows ∷ more) = widening_of more
+widening_of (widened w ∷ more) = w
 
 abbrev pub rows_with : List Addition → Name → List (Row Name Action Value)
-rows_with more x = rows_of x ++ added_to (number_of x) more
+rows_with more x = rows_of (widening_of more) x ++ added_to (number_of x) more
 
 -- with these additions
 abbrev pub grammar_with : List Addition → Grammar Name Action Token Value
@@ -225,11 +240,15 @@ sets = record { nullable = nullable; first = first; follow = follow; rank = rank
 
 HEADER = "`tools/additions.py` writes this file from `tools/grammar.txt` and `tools/additions.txt`."
 GUARDS = ["is_name", "is_target", "are_targets", "is_annotable", "is_deleted", "is_bare", "is_first_argument", "may_be_targets"]
+WIDE_GUARDS = ["is_target_with", "are_targets_with"]
 OWN_ACTIONS = {
     "Head": "The last token is the construct's head.",
     "Hold": "The last token on the stack is the head, if another token comes.",
     "Forget": "Drops the last item.",
     "Plain": "The last expression is no target.",
+    "TellTargets": "The last token tells the head of the targets before it.",
+    "TellLoop": "The last token tells that the first bracket of the loop is the head, or one round the loop that may be a target.",
+    "HoldSlice": "The last slice is the head, if another token comes.",
 }
 
 # The code's files of rows: each goes from a name to the next one's.
@@ -317,7 +336,7 @@ pub enum Action {
 pub enum Guard {
     Always,
 """)
-    shown += [f"    {pascal(g)},\n" for g in GUARDS]
+    shown += [f"    {pascal(g)},\n" for g in GUARDS + WIDE_GUARDS]
     shown.append("""}
 
 #[derive(Clone, Copy, Debug, PartialEq, Eq)]
@@ -383,6 +402,7 @@ def write_rows(grammar, source):
 
 ghost use Rattle.std.specs.Prelude.{{◌≡◌}};
 ghost use Rattle.py_constructs.specs.Table.{{rows_of as rows_of_name, rows_between}};
+ghost use Rattle.py_constructs.specs.Values.{{Widening}};
 ghost use Rattle.py_table.specs.PlainSymbols.{{plain_nonterminal}};
 ghost use Rattle.py_outside.specs.PlainSymbols.{{plain_name, plain_rows}};
 
@@ -393,7 +413,7 @@ use py_table::symbol::Nonterminal;
 
 /// The rows of one of the profile's nonterminals.
 fn rows_of_nonterminal(nonterminal: Nonterminal) -> Rows
-    ensures {{ plain_rows result ≡ rows_between (plain_nonterminal nonterminal) }}
+    ensures {{ (w : Widening) → plain_rows w result ≡ rows_between w (plain_nonterminal nonterminal) }}
 {{
     match nonterminal {{
 """]
@@ -405,7 +425,7 @@ fn rows_of_nonterminal(nonterminal: Nonterminal) -> Rows
 
 /// The rows of a name.
 pub(crate) fn rows_of(name: Name) -> Rows
-    ensures { plain_rows result ≡ rows_of_name (plain_name name) }
+    ensures { (w : Widening) → plain_rows w result ≡ rows_of_name w (plain_name name) }
 {
     match name {
         Name::Profile(nonterminal) => rows_of_nonterminal(nonterminal),
@@ -446,22 +466,34 @@ def write_added(grammar, source, nullable, first, follow):
     out = [f"""//! The rows that each construct adds. {HEADER}
 
 ghost use Rattle.std.specs.Prelude.{{◌≡◌, map}};
-ghost use Rattle.py_constructs.specs.Table.{{additions}};
+ghost use Rattle.py_constructs.specs.Table.{{additions, widening_of}};
 ghost use Rattle.py_outside.specs.PlainConstructs.{{plain_construct}};
 ghost use Rattle.py_outside.specs.PlainSymbols.{{plain_added}};
+ghost use Rattle.py_outside.specs.PlainValues.{{plain_widening}};
 ghost use Rattle.py_outside.specs.Sights.{{spread}};
 
 use crate::construct::Construct;
 use crate::symbol::AddedRow;
+use crate::targets::Widening;
 use crate::{{{', '.join(sorted(set(places.values())))}}};
 
 pub(crate) fn rows_added(construct: Construct) -> &'static [AddedRow]
-    ensures {{ map plain_added result.now ≡ spread (additions (plain_construct construct)) }}
+    ensures {{ map (plain_added (widening_of (additions (plain_construct construct)))) result.now ≡ spread (additions (plain_construct construct)) }}
 {{
     match construct {{
 """]
     out += [f"        Construct::{names[c]} => {places[c]}::{constant_name(names[c])}_ROWS,\n" for c in grammar.added]
-    out.append("    }\n}\n")
+    out.append("""    }
+}
+
+/// What a construct lets be targets besides the profile's.
+pub(crate) fn widening_by(construct: Construct) -> Widening
+    ensures { plain_widening result ≡ widening_of (additions (plain_construct construct)) }
+{
+    match construct {
+""")
+    out += [f"        Construct::{names[c]} => Widening::{w},\n" for c, w in grammar.widenings.items()]
+    out.append("        " + " | ".join(f"Construct::{names[c]}" for c in grammar.added if c not in grammar.widenings) + " => Widening::Nothing,\n    }\n}\n")
     (source / "added.rt").write_text("".join(out))
 
 
@@ -569,22 +601,22 @@ plain_name (name.Profile x) = meaning.Profile (profile.plain_nonterminal x)
     out += [f"plain_name name.{x} = meaning.{x}\n" for x in grammar.places]
     out.append("\nabbrev pub plain_action : Action → value.Action\nplain_action (action.Own a) = value.Own (profile.plain_action a)\n")
     out += [f"plain_action action.{a} = value.{a}\n" for a in OWN_ACTIONS]
-    out.append(table.symbol_views(GUARDS, "value", "plain_name", "value.Value", "meaning.Name value.Action value.Value"))
+    out.append(table.symbol_views(GUARDS, "value", "plain_name", "value.Value", "meaning.Name value.Action value.Value", WIDE_GUARDS, "value.Widening → ", " w"))
     out.append("""
 -- a row of the profile's table, without its guard
 abbrev pub plain_profile_row : ProfileRow → PlainRow meaning.Name value.Action value.Value
 plain_profile_row r = meaning.row (map meaning.profile_symbol (profile.plain_symbols r.symbols.now))
 
-abbrev pub plain_taken : Taken → PlainRow meaning.Name value.Action value.Value
-plain_taken (taken.Profile r) = plain_profile_row r.now
-plain_taken (taken.Own r) = plain_row r.now
+abbrev pub plain_taken : value.Widening → Taken → PlainRow meaning.Name value.Action value.Value
+plain_taken w (taken.Profile r) = plain_profile_row r.now
+plain_taken w (taken.Own r) = plain_row w r.now
 
-abbrev pub plain_rows : Rows → List (PlainRow meaning.Name value.Action value.Value)
-plain_rows (rows.Profile l) = meaning.profile_rows (map profile.plain_row l.now)
-plain_rows (rows.Own l) = map plain_row l.now
+abbrev pub plain_rows : value.Widening → Rows → List (PlainRow meaning.Name value.Action value.Value)
+plain_rows w (rows.Profile l) = meaning.profile_rows (map profile.plain_row l.now)
+plain_rows w (rows.Own l) = map (plain_row w) l.now
 
-abbrev pub plain_added : AddedRow → Added
-plain_added r = record { name = meaning.number_of (plain_name r.name); sights = map sight_numbered r.sights.now; row = plain_row r.row }
+abbrev pub plain_added : value.Widening → AddedRow → Added
+plain_added w r = record { name = meaning.number_of (plain_name r.name); sights = map sight_numbered r.sights.now; row = plain_row w r.row }
 """)
     (source.parent / "specs/PlainSymbols.antt").write_text("".join(out))
 

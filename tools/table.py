@@ -287,12 +287,13 @@ def rust_symbol(symbol):
     return f"Do({name}({argument_type(name)}::{argument}))" if argument else f"Do({name})"
 
 
-def symbol_views(guards, module, name_view, value, row):
-    """The views of guards, symbols and rows: the guards' tests stand in a module, and a view tells names."""
-    tests = "".join(f"plain_guard guard.{pascal(g)} = Where {module}.{g}\n" for g in guards)
+def symbol_views(guards, module, name_view, value, row, wide_guards=(), type_of_w="", w=""):
+    """The views of guards, symbols and rows: the guards' tests stand in a module, and a view tells names. Wide guards ask by w."""
+    tests = "".join(f"plain_guard{w} guard.{pascal(g)} = Where {module}.{g}\n" for g in guards)
+    tests += "".join(f"plain_guard{w} guard.{pascal(g)} = Where ({module}.{g}{w})\n" for g in wide_guards)
     return f"""
-abbrev pub plain_guard : Guard → PlainGuard {value}
-plain_guard guard.Always = Always
+abbrev pub plain_guard : {type_of_w}Guard → PlainGuard {value}
+plain_guard{w} guard.Always = Always
 {tests}
 abbrev pub plain_symbol : Symbol → meaning.Symbol
 plain_symbol (symbol.Read kind) = Tok kind
@@ -302,8 +303,8 @@ plain_symbol (symbol.Do a) = Do (plain_action a)
 abbrev pub plain_symbols : List Symbol → List meaning.Symbol
 plain_symbols = map plain_symbol
 
-abbrev pub plain_row : Row → PlainRow {row}
-plain_row r = record {{ guard = plain_guard r.guard; symbols = plain_symbols r.symbols.now }}
+abbrev pub plain_row : {type_of_w}Row → PlainRow {row}
+plain_row{w} r = record {{ guard = plain_guard{w} r.guard; symbols = plain_symbols r.symbols.now }}
 """
 
 

@@ -1,19 +1,26 @@
 -- What is known on the way of a run, step by step.
-use Rattle.std.proofs.Common.{◌≡◌, ℕ, zero, suc, ◌+◌, ◌<◌, Bool, true, false, cond, ◌&&◌, ◌==◌, if◌then◌else◌, List, [], ◌∷◌, ◌++◌, length, Option, Some, None, ◌⊎◌, inl, inr, refl, sym, ap, ◌∙◌, subst, arith, eq-eqb, eqb-true, append-nil, append_assoc}
+use Rattle.std.proofs.Common.{◌≡◌, ℕ, suc, ◌+◌, Bool, true, false, cond, ◌&&◌, ◌==◌, if◌then◌else◌, List, [], ◌∷◌, ◌++◌, Option, Some, None, ◌⊎◌, inl, inr, refl, sym, ap, ◌∙◌, subst, arith, eq-eqb, eqb-true, append-nil, append_assoc}
 use Rattle.grammars.specs.Grammar.{Tok, Non, Do, allows, Row, IsRow, Sight, sight}
 use Rattle.grammars.specs.Sets.{has, ahead}
-use Rattle.grammars.specs.Run.{Done, Stuck, first_row, pick, expand, run}
-use Rattle.grammars.proofs.Rows.{pick_is_row}
+use Rattle.grammars.specs.Run.{Stuck, first_row, pick, expand, run}
+use Rattle.grammars.proofs.Bools.{and_left, and_right}
+use Rattle.grammars.proofs.Rows.{pick_is_row, pick_row}
 use Rattle.py_syntax.specs.Token.{Token}
 use Rattle.py_syntax.specs.Kinds.{kind_of}
 use Rattle.py_constructs.specs.Construct.{Construct}
-use Rattle.py_constructs.specs.Values.{Told, Value, begin, take_in, Action, act}
-use Rattle.py_constructs.specs.Table.{Name, Symbol, rows_of, number_of, additions, added_to, grammar_with, extended, sets, goal}
+use Rattle.py_syntax.specs.Table as t
+use Rattle.py_constructs.specs.Values.{Targets, NoTargets, OwnTargets, SlicedTargets, NestedTargets, Item, Token as TokenItem, Expression, Class, Base, Other, Value, begin, take_in, Action, act, of_expression, are_own, Widening, NoWidening, Slices, Brackets, are_wide, is_wide, are_targets_with, is_target_with}
+use Rattle.py_constructs.specs.Table.{Name, Profile, Symbol, rows_of, number_of, additions, added_to, widening_of, grammar_with, extended, sets, goal}
 use Rattle.py_constructs.specs.Standing.{StandsAt}
-use Rattle.py_constructs.specs.Reached.{settled, Reached, End, IsHead}
+use Rattle.py_constructs.specs.Reached.{settled, End}
 use Rattle.py_constructs.specs.OneStep.{Step, Going, Finished, Halted, expanded, one_step, OnWay, StartLaw, StepLaw, OwnStepLaw, HaltLaw, FinishLaw, EarlyLaw}
+use Rattle.std.proofs.lemmas.Option.{same_Some}
+use Rattle.py_constructs.proofs.TableSets.{decided}
 use Rattle.py_constructs.proofs.Standing.{told_law}
 use Rattle.py_constructs.proofs.Steps.{begins, over_token, over_action, over_row}
+
+abbrev OneRow : Type 0
+OneRow = Row Name Action Value
 
 pub start_law : StartLaw
 start_law c ts = record {
@@ -82,20 +89,123 @@ read_goes : (c : Construct) (k : ℕ) (symbols : List Symbol) (v : Value) (t : T
     → run (extended c) sets (suc n) (Tok k ∷ symbols) v (t ∷ rest) ≡ run (extended c) sets n symbols (take_in t v) rest
 read_goes c k symbols v t rest n e = ap (λ (b : Bool). cond b (run (extended c) sets n symbols (take_in t v) rest) (Stuck (t ∷ rest))) e
 
--- what is picked with some rows in front is picked with more behind them
-first_of_more : (test : Row Name Action Value → Bool) (these those : List (Row Name Action Value)) (r : Row Name Action Value) → first_row test these ≡ Some r → first_row test (these ++ those) ≡ Some r
-first_of_more test [] those r e = absurd (cc)
-first_of_more test (q ∷ these) those r e = go (test q) e (first_of_more test these those r)
+-- a row that is picked stands there, and the test takes it
+first_is : (test : OneRow → Bool) (rows : List OneRow) (r : OneRow) → first_row test rows ≡ Some r → IsRow r rows × (test r ≡ true)
+first_is test [] r e = absurd (cc)
+first_is test (q ∷ rows) r e = go (test q) refl e (first_is test rows r)
   where
-    go : (b : Bool) → cond b (Some q) (first_row test these) ≡ Some r → (first_row test these ≡ Some r → first_row test (these ++ those) ≡ Some r)
-        → cond b (Some q) (first_row test (these ++ those)) ≡ Some r
-    go true e later = e
-    go false e later = later e
+    go : (b : Bool) → test q ≡ b → cond b (Some q) (first_row test rows) ≡ Some r → (first_row test rows ≡ Some r → IsRow r rows × (test r ≡ true)) → IsRow r (q ∷ rows) × (test r ≡ true)
+    go true t k later = let same : q ≡ r = same_Some q r k in (inl (sym same), subst (λ (x : OneRow). test x ≡ true) same t)
+    go false t k later = let found = later k in (inr found.0, found.1)
 
-picked_with : (c : Construct) (x : Name) (v : Value) (s : Sight) (r : Row Name Action Value) → pick (grammar_with []) sets x v s ≡ Some r → pick (extended c) sets x v s ≡ Some r
+-- row for row the same symbols, and a guard that allows no less at this value
+abbrev AllowNoLess : Value → List OneRow → List OneRow → Type 0
+AllowNoLess v [] [] = Unit {0}
+AllowNoLess v [] (q ∷ those) = ⊥
+AllowNoLess v (r ∷ these) [] = ⊥
+AllowNoLess v (r ∷ these) (q ∷ those) = (r.symbols ≡ q.symbols) × (allows r.guard v ≡ true → allows q.guard v ≡ true) × AllowNoLess v these those
+
+same_rows : (v : Value) (rows : List OneRow) → AllowNoLess v rows rows
+same_rows v [] = tt
+same_rows v (r ∷ rows) = (refl, λ h. h, same_rows v rows)
+
+-- the row that stands in place of one that is allowed
+abbrev InPlace : Value → OneRow → List OneRow → Type 0
+InPlace v r rows = (q : OneRow) × IsRow q rows × (r.symbols ≡ q.symbols) × (allows q.guard v ≡ true)
+
+in_place : (v : Value) (these those : List OneRow) (r : OneRow) → AllowNoLess v these those → IsRow r these → allows r.guard v ≡ true → InPlace v r those
+in_place v [] [] r a i g = absurd i
+in_place v [] (q ∷ those) r a i g = absurd a
+in_place v (p ∷ these) [] r a i g = absurd a
+in_place v (p ∷ these) (q ∷ those) r a (inl e) g = (q, inl refl, ap (λ (x : OneRow). x.symbols) e ∙ a.0, a.1 (subst (λ (x : OneRow). allows x.guard v ≡ true) e g))
+in_place v (p ∷ these) (q ∷ those) r a (inr i) g = let l = in_place v these those r a.2 i g in (l.0, inr l.1, l.2, l.3)
+
+-- where more may be targets, no guard allows less
+own_are_targets : (w : Widening) (t : Targets) → are_own t ≡ true → are_wide w t ≡ true
+own_are_targets NoWidening t h = h
+own_are_targets Slices NoTargets h = h
+own_are_targets Slices OwnTargets h = h
+own_are_targets Slices (SlicedTargets head) h = refl
+own_are_targets Slices (NestedTargets head) h = h
+own_are_targets Brackets NoTargets h = h
+own_are_targets Brackets OwnTargets h = h
+own_are_targets Brackets (SlicedTargets head) h = h
+own_are_targets Brackets (NestedTargets head) h = refl
+
+own_is_target : (w : Widening) (t : Targets) → are_own t ≡ true → is_wide w t ≡ true
+own_is_target NoWidening t h = h
+own_is_target Slices NoTargets h = h
+own_is_target Slices OwnTargets h = h
+own_is_target Slices (SlicedTargets head) h = refl
+own_is_target Slices (NestedTargets head) h = h
+own_is_target Brackets t h = h
+
+more_targets : (w : Widening) (v : Value) → are_targets_with NoWidening v ≡ true → are_targets_with w v ≡ true
+more_targets w v = go v.items
+  where
+    go : (items : List Item) → of_expression (λ r. are_wide NoWidening r.whole) items ≡ true → of_expression (λ r. are_wide w r.whole) items ≡ true
+    go [] h = h
+    go (Expression r ∷ items) h = own_are_targets w r.whole h
+    go (TokenItem s n p ∷ items) h = h
+    go (Class b ∷ items) h = h
+    go (Base ∷ items) h = h
+    go (Other ∷ items) h = h
+
+more_target : (w : Widening) (v : Value) → is_target_with NoWidening v ≡ true → is_target_with w v ≡ true
+more_target w v = go v.items
+  where
+    go : (items : List Item) → of_expression (λ r. is_wide NoWidening r.item) items ≡ true → of_expression (λ r. is_wide w r.item) items ≡ true
+    go [] h = h
+    go (Expression r ∷ items) h = own_is_target w r.item h
+    go (TokenItem s n p ∷ items) h = h
+    go (Class b ∷ items) h = h
+    go (Base ∷ items) h = h
+    go (Other ∷ items) h = h
+
+-- only these two names have such guards
+alike : (w : Widening) (x : Name) → (rows_of NoWidening x ≡ rows_of w x) ⊎ (x ≡ Profile t.SmallTail) ⊎ (x ≡ Profile t.AssignTail)
+alike w (Profile t.SmallTail) = inr (inl refl)
+alike w (Profile t.AssignTail) = inr (inr refl)
+alike w (Profile t.Module) = inl refl
+alike w _ = inl refl
+
+behind_expressions : (w : Widening) (v : Value) → AllowNoLess v (rows_of NoWidening (Profile t.SmallTail)) (rows_of w (Profile t.SmallTail))
+behind_expressions w v =
+    let one = more_target w v in
+    (refl, λ h. h, (refl, more_targets w v, (refl, one, (refl, one, (refl, one, (refl, one, (refl, one, (refl, one, (refl, one, (refl, one, (refl, one, (refl, one, (refl, one, tt)))))))))))))
+
+behind_assignments : (w : Widening) (v : Value) → AllowNoLess v (rows_of NoWidening (Profile t.AssignTail)) (rows_of w (Profile t.AssignTail))
+behind_assignments w v = (refl, λ h. h, (refl, more_targets w v, tt))
+
+no_less : (w : Widening) (x : Name) (v : Value) → AllowNoLess v (rows_of NoWidening x) (rows_of w x)
+no_less w x v = go (alike w x)
+  where
+    go : (rows_of NoWidening x ≡ rows_of w x) ⊎ (x ≡ Profile t.SmallTail) ⊎ (x ≡ Profile t.AssignTail) → AllowNoLess v (rows_of NoWidening x) (rows_of w x)
+    go (inl e) = subst (λ (l : List OneRow). AllowNoLess v (rows_of NoWidening x) l) e (same_rows v (rows_of NoWidening x))
+    go (inr (inl e)) = subst (λ (y : Name). AllowNoLess v (rows_of NoWidening y) (rows_of w y)) (sym e) (behind_expressions w v)
+    go (inr (inr e)) = subst (λ (y : Name). AllowNoLess v (rows_of NoWidening y) (rows_of w y)) (sym e) (behind_assignments w v)
+
+in_front : (these those : List OneRow) (r : OneRow) → IsRow r these → IsRow r (these ++ those)
+in_front [] those r i = absurd i
+in_front (q ∷ these) those r (inl e) = inl e
+in_front (q ∷ these) those r (inr i) = inr (in_front these those r i)
+
+-- where a row is picked with none added, one with the same symbols is picked with each
+abbrev PickedWith : Construct → Name → Value → Sight → OneRow → Type 0
+PickedWith c x v s r = (q : OneRow) × (pick (extended c) sets x v s ≡ Some q) × (r.symbols ≡ q.symbols)
+
+picked_with : (c : Construct) (x : Name) (v : Value) (s : Sight) (r : OneRow) → pick (grammar_with []) sets x v s ≡ Some r → PickedWith c x v s r
 picked_with c x v s r e =
-    first_of_more (λ q. has (ahead sets (sets.follow x) q.symbols) s && allows q.guard v) (rows_of x) (added_to (number_of x) (additions c)) r
-    (ap (first_row (λ q. has (ahead sets (sets.follow x) q.symbols) s && allows q.guard v)) (sym (append-nil (rows_of x))) ∙ e)
+    let w : Widening = widening_of (additions c) in
+    let test : OneRow → Bool = λ q. has (ahead sets (sets.follow x) q.symbols) s && allows q.guard v in
+    let f : IsRow r (rows_of NoWidening x) × (test r ≡ true) = first_is test (rows_of NoWidening x) r (ap (first_row test) (sym (append-nil (rows_of NoWidening x))) ∙ e) in
+    let seen : has (ahead sets (sets.follow x) r.symbols) s ≡ true = and_left (has (ahead sets (sets.follow x) r.symbols) s) (allows r.guard v) f.1 in
+    let q : InPlace v r (rows_of w x) = in_place v (rows_of NoWidening x) (rows_of w x) r (no_less w x v) f.0 (and_right (has (ahead sets (sets.follow x) r.symbols) s) (allows r.guard v) f.1) in (
+      q.0,
+      pick_row (extended c) sets x q.0 v s (decided c x) (in_front (rows_of w x) (added_to (number_of x) (additions c)) q.0 q.1)
+          (subst (λ (l : List Symbol). has (ahead sets (sets.follow x) l) s ≡ true) q.2 seen) q.3,
+      q.2,
+    )
 
 sight_alike : (c : Construct) (ts : List Token) → sight (grammar_with []) ts ≡ sight (extended c) ts
 sight_alike c [] = refl
@@ -141,7 +251,8 @@ own_stepped c ts (Non x ∷ symbols) v rest w g = go (pick (grammar_with []) set
     go : (o : Option (Row Name Action Value)) → pick (grammar_with []) sets x v (sight (grammar_with []) rest) ≡ o → IsGoing (expanded o symbols v rest) → At c ts (expanded o symbols v rest)
     go None e i = absurd i
     go (Some r) e i =
-        over_expand c ts x r symbols v rest w (subst (λ (s : Sight). pick (extended c) sets x v s ≡ Some r) (sight_alike c rest) (picked_with c x v (sight (grammar_with []) rest) r e))
+        let q : PickedWith c x v (sight (extended c) rest) r = subst (λ (s : Sight). PickedWith c x v s r) (sight_alike c rest) (picked_with c x v (sight (grammar_with []) rest) r e) in
+        subst (λ (l : List Symbol). OnWay c ts (l ++ symbols) v rest) (sym q.2) (over_expand c ts x q.0 symbols v rest w q.1)
 own_stepped c ts (Do a ∷ symbols) v rest w g = over_do c ts a symbols v rest w
 
 pub own_step_law : OwnStepLaw

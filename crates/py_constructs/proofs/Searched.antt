@@ -16,7 +16,7 @@ ordered _ = refl
 one_order : (a d : Construct) → construct_order a ≡ construct_order d → a ≡ d
 one_order a d e = sym (ordered a) ∙ ap (λ (n : ℕ). get_or constructs n c.Float) e ∙ ordered d
 
-there_are : (a : Construct) → construct_order a < 42
+there_are : (a : Construct) → construct_order a < 44
 there_are c.Float = omega arith
 there_are _ = omega arith
 

@@ -7,7 +7,7 @@ use Rattle.grammars.proofs.Rows.{pick_is_row}
 use Rattle.py_syntax.specs.Token.{Token}
 use Rattle.py_syntax.specs.Kinds.{kind_of}
 use Rattle.py_constructs.specs.Construct.{Construct}
-use Rattle.py_constructs.specs.Values.{Value, take_in, Action, Own, Head, Hold, Forget, Plain, act}
+use Rattle.py_constructs.specs.Values.{Value, take_in, Action, Own, Head, Hold, Forget, Plain, TellTargets, TellLoop, HoldSlice, act}
 use Rattle.py_constructs.specs.Table.{Name, Symbol, extended, sets}
 use Rattle.py_constructs.specs.Reached.{heads_follow}
 use Rattle.py_constructs.specs.FrontRead.{Standing, at, through, front_read}
@@ -108,4 +108,7 @@ place_headed c (suc n) (Do Head ∷ symbols) rest v u (t ∷ front) h e = place_
 place_headed c (suc n) (Do Hold ∷ symbols) rest v u (t ∷ front) h e = place_headed c n symbols rest (act Hold v) u (t ∷ front) (headed_later symbols h) e
 place_headed c (suc n) (Do Forget ∷ symbols) rest v u (t ∷ front) h e = place_headed c n symbols rest (act Forget v) u (t ∷ front) (headed_later symbols h) e
 place_headed c (suc n) (Do Plain ∷ symbols) rest v u (t ∷ front) h e = place_headed c n symbols rest (act Plain v) u (t ∷ front) (headed_later symbols h) e
+place_headed c (suc n) (Do TellTargets ∷ symbols) rest v u (t ∷ front) h e = place_headed c n symbols rest (act TellTargets v) u (t ∷ front) (headed_later symbols h) e
+place_headed c (suc n) (Do TellLoop ∷ symbols) rest v u (t ∷ front) h e = place_headed c n symbols rest (act TellLoop v) u (t ∷ front) (headed_later symbols h) e
+place_headed c (suc n) (Do HoldSlice ∷ symbols) rest v u (t ∷ front) h e = place_headed c n symbols rest (act HoldSlice v) u (t ∷ front) (headed_later symbols h) e
 place_headed c (suc n) (Do (Own a) ∷ symbols) rest v u (t ∷ front) h e = place_headed c n symbols rest (act (Own a) v) u (t ∷ front) (headed_later symbols h) e

@@ -7,7 +7,7 @@ use Rattle.grammars.proofs.Bools.{and_right}
 use Rattle.grammars.proofs.Completions.{row_has_specimens, specimens_joined}
 use Rattle.grammars.proofs.Steps.{by_token, by_action, by_row}
 use Rattle.py_syntax.specs.Token.{Token}
-use Rattle.py_constructs.specs.Values.{Numbered, Told, begin, told_so, last_token, Own, Head, Hold, Forget, Plain}
+use Rattle.py_constructs.specs.Values.{Numbered, Told, begin, told_so, last_token, head_of_last, loop_head, less, Own, Head, Hold, Forget, Plain, TellTargets, TellLoop, HoldSlice}
 use Rattle.py_constructs.specs.Table.{additions, rows_with, extended, sets, goal}
 use Rattle.py_constructs.specs.Steps.{BeginsLaw, OverTokenLaw, OverActionLaw, OverRowLaw}
 use Rattle.py_constructs.proofs.TableSets as table
@@ -66,6 +66,27 @@ over_action c before Forget symbols v r = record {
 }
 over_action c before Plain symbols v r = record {
   derives = λ more w y. r.derives more w (by_action (extended c) Plain symbols v more w y);
+  specimens = r.specimens;
+  headed = headed_later symbols r.headed;
+  read = r.read;
+  known = r.known;
+}
+over_action c before TellTargets symbols v r = record {
+  derives = λ more w y. r.derives more w (by_action (extended c) TellTargets symbols v more w y);
+  specimens = r.specimens;
+  headed = headed_later symbols r.headed;
+  read = r.read;
+  known = λ t e. told_known v.told (head_of_last (less 1 v.items)) v.read t r.known e;
+}
+over_action c before TellLoop symbols v r = record {
+  derives = λ more w y. r.derives more w (by_action (extended c) TellLoop symbols v more w y);
+  specimens = r.specimens;
+  headed = headed_later symbols r.headed;
+  read = r.read;
+  known = λ t e. told_known v.told (loop_head v.left.here.head v.bracket) v.read t r.known e;
+}
+over_action c before HoldSlice symbols v r = record {
+  derives = λ more w y. r.derives more w (by_action (extended c) HoldSlice symbols v more w y);
   specimens = r.specimens;
   headed = headed_later symbols r.headed;
   read = r.read;

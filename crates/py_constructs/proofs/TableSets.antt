@@ -7,16 +7,16 @@ use Rattle.py_syntax.specs.Kinds.{kind_of, specimen}
 use Rattle.py_syntax.specs.Table as t
 use Rattle.py_constructs.specs.Construct as c
 use Rattle.py_constructs.specs.Construct.{Construct}
-use Rattle.py_constructs.specs.Values.{Action, Value}
-use Rattle.py_constructs.specs.Table.{Name, Profile, Symbol, rows_of, number_of, names, Addition, to, additions, added_to, grammar_with, extended, sets, goal}
+use Rattle.py_constructs.specs.Values.{Action, Value, Widening}
+use Rattle.py_constructs.specs.Table.{Name, Profile, Symbol, rows_of, number_of, names, Addition, to, widened, additions, added_to, widening_of, grammar_with, extended, sets, goal}
 
-pub own_decided : (x : Name) → is_decided (grammar_with []) sets x ≡ true
-own_decided (Profile t.Module) = refl
-own_decided _ = refl
+pub own_decided : (w : Widening) (x : Name) → is_decided (grammar_with (widened w ∷ [])) sets x ≡ true
+own_decided w (Profile t.Module) = refl
+own_decided w _ = refl
 
-own_completable : (x : Name) → is_completable (grammar_with []) sets x ≡ true
-own_completable (Profile t.Module) = refl
-own_completable _ = refl
+own_completable : (w : Widening) (x : Name) → is_completable (grammar_with (widened w ∷ [])) sets x ≡ true
+own_completable w (Profile t.Module) = refl
+own_completable w _ = refl
 
 -- none of these rows is taken where one of those is
 abbrev are_apart_rows : Name → List (Row Name Action Value) → List (Row Name Action Value) → Bool
@@ -24,23 +24,25 @@ are_apart_rows x [] those = true
 are_apart_rows x (r ∷ these) those = is_apart_from sets x (ahead sets (sets.follow x) r.symbols) those && are_apart_rows x these those
 
 -- what rows that are added have to meet
-abbrev fit : Name → List (Row Name Action Value) → Bool
-fit x [] = true
-fit x (r ∷ rows) =
-    are_closed sets x (r ∷ rows) && (are_told_apart sets x (r ∷ rows) && (are_apart_rows x (rows_of x) (r ∷ rows) && have_all_specimens (grammar_with []) sets (r ∷ rows)))
+abbrev fit : Widening → Name → List (Row Name Action Value) → Bool
+fit w x [] = true
+fit w x (r ∷ rows) =
+    are_closed sets x (r ∷ rows) && (are_told_apart sets x (r ∷ rows) && (are_apart_rows x (rows_of w x) (r ∷ rows) && have_all_specimens (grammar_with []) sets (r ∷ rows)))
 
 -- no other rows are added to this name
 abbrev is_new : ℕ → List Addition → Bool
 is_new n [] = true
 is_new n (to x rows ∷ more) = not (number_of x == n) && is_new n more
+is_new n (widened w ∷ more) = is_new n more
 
-abbrev all_fit : List Addition → Bool
-all_fit [] = true
-all_fit (to x rows ∷ more) = fit x rows && (is_new (number_of x) more && all_fit more)
+abbrev all_fit : Widening → List Addition → Bool
+all_fit w [] = true
+all_fit w (to x rows ∷ more) = fit w x rows && (is_new (number_of x) more && all_fit w more)
+all_fit w (widened u ∷ more) = all_fit w more
 
-additions_fit : (a : Construct) → all_fit (additions a) ≡ true
-additions_fit c.Float = refl
-additions_fit _ = refl
+additions_fit : (w : Widening) (a : Construct) → all_fit w (additions a) ≡ true
+additions_fit w c.Float = refl
+additions_fit w _ = refl
 
 -- numbers tell names apart
 named : (x : Name) → get_or names (number_of x) (Profile t.Module) ≡ x
@@ -57,19 +59,21 @@ none_added n (to x rows ∷ more) h = go (number_of x == n) refl (none_added n m
     go : (b : Bool) → (number_of x == n) ≡ b → added_to n more ≡ [] → (if b then rows ++ added_to n more else added_to n more) ≡ []
     go true e later = absurd (let no : true ≡ false = sym e ∙ not_false (number_of x == n) (and_left _ _ h) in cc)
     go false e later = later
+none_added n (widened w ∷ more) h = none_added n more h
 
 -- so what is added to a name fits it
-added_fit : (more : List Addition) (x : Name) → all_fit more ≡ true → fit x (added_to (number_of x) more) ≡ true
-added_fit [] x h = refl
-added_fit (to y rows ∷ more) x h = go (number_of y == number_of x) refl (added_fit more x (and_right _ _ (and_right _ _ h)))
+added_fit : (w : Widening) (more : List Addition) (x : Name) → all_fit w more ≡ true → fit w x (added_to (number_of x) more) ≡ true
+added_fit w [] x h = refl
+added_fit w (to y rows ∷ more) x h = go (number_of y == number_of x) refl (added_fit w more x (and_right _ _ (and_right _ _ h)))
   where
-    go : (b : Bool) → (number_of y == number_of x) ≡ b → fit x (added_to (number_of x) more) ≡ true → fit x (if b then rows ++ added_to (number_of x) more else added_to (number_of x) more) ≡ true
+    go : (b : Bool) → (number_of y == number_of x) ≡ b → fit w x (added_to (number_of x) more) ≡ true → fit w x (if b then rows ++ added_to (number_of x) more else added_to (number_of x) more) ≡ true
     go true e later =
         let same : y ≡ x = same_name y x (eqb-true _ _ e) in
         let none : added_to (number_of x) more ≡ [] = subst (λ (z : Name). added_to (number_of z) more ≡ []) same (none_added (number_of y) more (and_left _ _ (and_right _ _ h))) in
-        subst (λ (l : List (Row Name Action Value)). fit x (rows ++ l) ≡ true) (sym none)
-        (subst (λ (l : List (Row Name Action Value)). fit x l ≡ true) (sym (append-nil rows)) (subst (λ (z : Name). fit z rows ≡ true) same (and_left _ _ h)))
+        subst (λ (l : List (Row Name Action Value)). fit w x (rows ++ l) ≡ true) (sym none)
+        (subst (λ (l : List (Row Name Action Value)). fit w x l ≡ true) (sym (append-nil rows)) (subst (λ (z : Name). fit w z rows ≡ true) same (and_left _ _ h)))
     go false e later = later
+added_fit w (widened u ∷ more) x h = added_fit w more x h
 
 closed_both : (x : Name) (these those : List (Row Name Action Value)) → are_closed sets x these ≡ true → are_closed sets x those ≡ true → are_closed sets x (these ++ those) ≡ true
 closed_both x [] those h k = k
@@ -110,16 +114,16 @@ specimens_both : (more : List Addition) (these those : List (Row Name Action Val
 specimens_both more [] those h k = k
 specimens_both more (r ∷ these) those h k = both (have_specimens (grammar_with more) sets r.symbols) _ (and_left _ _ h) (specimens_both more these those (and_right _ _ h) k)
 
-own_so : (x : Name) → (are_closed sets x (rows_of x) && are_told_apart sets x (rows_of x)) ≡ true
-own_so x = subst (λ (l : List (Row Name Action Value)). (are_closed sets x l && are_told_apart sets x l) ≡ true) (append-nil (rows_of x)) (own_decided x)
+own_so : (w : Widening) (x : Name) → (are_closed sets x (rows_of w x) && are_told_apart sets x (rows_of w x)) ≡ true
+own_so w x = subst (λ (l : List (Row Name Action Value)). (are_closed sets x l && are_told_apart sets x l) ≡ true) (append-nil (rows_of w x)) (own_decided w x)
 
-own_ends : (x : Name) → (have_exit sets (sets.rank x) (rows_of x) && have_all_specimens (grammar_with []) sets (rows_of x)) ≡ true
-own_ends x = subst (λ (l : List (Row Name Action Value)). (have_exit sets (sets.rank x) l && have_all_specimens (grammar_with []) sets l) ≡ true) (append-nil (rows_of x)) (own_completable x)
+own_ends : (w : Widening) (x : Name) → (have_exit sets (sets.rank x) (rows_of w x) && have_all_specimens (grammar_with []) sets (rows_of w x)) ≡ true
+own_ends w x = subst (λ (l : List (Row Name Action Value)). (have_exit sets (sets.rank x) l && have_all_specimens (grammar_with []) sets l) ≡ true) (append-nil (rows_of w x)) (own_completable w x)
 
 -- the four tests of rows that are added
-abbrev Fit : Name → List (Row Name Action Value) → Type 0
-Fit x rows =
-    (are_closed sets x rows ≡ true) × (are_told_apart sets x rows ≡ true) × (are_apart_rows x (rows_of x) rows ≡ true) × (have_all_specimens (grammar_with []) sets rows ≡ true)
+abbrev Fit : Widening → Name → List (Row Name Action Value) → Type 0
+Fit w x rows =
+    (are_closed sets x rows ≡ true) × (are_told_apart sets x rows ≡ true) × (are_apart_rows x (rows_of w x) rows ≡ true) × (have_all_specimens (grammar_with []) sets rows ≡ true)
 
 all_four : (a b c d : Bool) → (a && (b && (c && d))) ≡ true → (a ≡ true) × (b ≡ true) × (c ≡ true) × (d ≡ true)
 all_four a b c d h =
@@ -127,34 +131,38 @@ all_four a b c d h =
     let last : (c && d) ≡ true = and_right b (c && d) later in
     (and_left a (b && (c && d)) h, and_left b (c && d) later, and_left c d last, and_right c d last)
 
-tests : (x : Name) (r : Row Name Action Value) (rows : List (Row Name Action Value)) → fit x (r ∷ rows) ≡ true → Fit x (r ∷ rows)
-tests x r rows h = all_four (are_closed sets x (r ∷ rows)) (are_told_apart sets x (r ∷ rows)) (are_apart_rows x (rows_of x) (r ∷ rows)) (have_all_specimens (grammar_with []) sets (r ∷ rows)) h
+tests : (w : Widening) (x : Name) (r : Row Name Action Value) (rows : List (Row Name Action Value)) → fit w x (r ∷ rows) ≡ true → Fit w x (r ∷ rows)
+tests w x r rows h = all_four (are_closed sets x (r ∷ rows)) (are_told_apart sets x (r ∷ rows)) (are_apart_rows x (rows_of w x) (r ∷ rows)) (have_all_specimens (grammar_with []) sets (r ∷ rows)) h
 
 -- where rows that fit are added, all is decided and has an exit
-decided_with : (x : Name) (rows : List (Row Name Action Value)) → fit x rows ≡ true → (are_closed sets x (rows_of x ++ rows) && are_told_apart sets x (rows_of x ++ rows)) ≡ true
-decided_with x [] h = own_decided x
-decided_with x (r ∷ rows) h =
-    let f : Fit x (r ∷ rows) = tests x r rows h in
-    both (are_closed sets x (rows_of x ++ r ∷ rows)) _
-    (closed_both x (rows_of x) (r ∷ rows) (and_left _ _ (own_so x)) f.0)
-    (told_apart_both x (rows_of x) (r ∷ rows) (and_right _ _ (own_so x)) f.1 f.2)
+decided_with : (w : Widening) (x : Name) (rows : List (Row Name Action Value)) → fit w x rows ≡ true → (are_closed sets x (rows_of w x ++ rows) && are_told_apart sets x (rows_of w x ++ rows)) ≡ true
+decided_with w x [] h = own_decided w x
+decided_with w x (r ∷ rows) h =
+    let f : Fit w x (r ∷ rows) = tests w x r rows h in
+    both (are_closed sets x (rows_of w x ++ r ∷ rows)) _
+    (closed_both x (rows_of w x) (r ∷ rows) (and_left _ _ (own_so w x)) f.0)
+    (told_apart_both x (rows_of w x) (r ∷ rows) (and_right _ _ (own_so w x)) f.1 f.2)
 
-specimens_fit : (more : List Addition) (x : Name) (rows : List (Row Name Action Value)) → fit x rows ≡ true → have_all_specimens (grammar_with more) sets rows ≡ true
-specimens_fit more x [] h = refl
-specimens_fit more x (r ∷ rows) h = all_specimens more [] (r ∷ rows) (tests x r rows h).3
+specimens_fit : (w : Widening) (more : List Addition) (x : Name) (rows : List (Row Name Action Value)) → fit w x rows ≡ true → have_all_specimens (grammar_with more) sets rows ≡ true
+specimens_fit w more x [] h = refl
+specimens_fit w more x (r ∷ rows) h = all_specimens more [] (r ∷ rows) (tests w x r rows h).3
 
-completable_with : (more : List Addition) (x : Name) (rows : List (Row Name Action Value)) → fit x rows ≡ true
-    → (have_exit sets (sets.rank x) (rows_of x ++ rows) && have_all_specimens (grammar_with more) sets (rows_of x ++ rows)) ≡ true
-completable_with more x rows h =
-    both (have_exit sets (sets.rank x) (rows_of x ++ rows)) _
-    (exit_both (sets.rank x) (rows_of x) rows (and_left _ _ (own_ends x)))
-    (specimens_both more (rows_of x) rows (all_specimens more [] (rows_of x) (and_right _ _ (own_ends x))) (specimens_fit more x rows h))
+completable_with : (w : Widening) (more : List Addition) (x : Name) (rows : List (Row Name Action Value)) → fit w x rows ≡ true
+    → (have_exit sets (sets.rank x) (rows_of w x ++ rows) && have_all_specimens (grammar_with more) sets (rows_of w x ++ rows)) ≡ true
+completable_with w more x rows h =
+    both (have_exit sets (sets.rank x) (rows_of w x ++ rows)) _
+    (exit_both (sets.rank x) (rows_of w x) rows (and_left _ _ (own_ends w x)))
+    (specimens_both more (rows_of w x) rows (all_specimens more [] (rows_of w x) (and_right _ _ (own_ends w x))) (specimens_fit w more x rows h))
 
 pub decided : (a : Construct) (x : Name) → is_decided (extended a) sets x ≡ true
-decided a x = decided_with x (added_to (number_of x) (additions a)) (added_fit (additions a) x (additions_fit a))
+decided a x =
+    let w : Widening = widening_of (additions a) in
+    decided_with w x (added_to (number_of x) (additions a)) (added_fit w (additions a) x (additions_fit w a))
 
 pub completable : (a : Construct) (x : Name) → is_completable (extended a) sets x ≡ true
-completable a x = completable_with (additions a) x (added_to (number_of x) (additions a)) (added_fit (additions a) x (additions_fit a))
+completable a x =
+    let w : Widening = widening_of (additions a) in
+    completable_with w (additions a) x (added_to (number_of x) (additions a)) (added_fit w (additions a) x (additions_fit w a))
 
 pub goal_decided : is_start sets goal ≡ true
 goal_decided = refl

@@ -5,7 +5,7 @@ use Rattle.grammars.specs.Grammar.{Tok, Non, Do}
 use Rattle.grammars.specs.Derivation.{Derives}
 use Rattle.py_syntax.specs.Token.{Token}
 use Rattle.py_constructs.specs.Construct.{Construct}
-use Rattle.py_constructs.specs.Values.{Numbered, Told, Value, told_so, last_token, take_in, Own, Head, Hold, Forget, Plain, act}
+use Rattle.py_constructs.specs.Values.{Numbered, Told, Value, told_so, last_token, head_of_last, loop_head, less, take_in, Own, Head, Hold, Forget, Plain, TellTargets, TellLoop, HoldSlice, act}
 use Rattle.py_constructs.specs.Table.{Symbol, extended}
 use Rattle.py_constructs.specs.Reached.{heads_follow, settled}
 use Rattle.py_constructs.proofs.HeadsFollow.{headed_row, headed_later, headed_joined}
@@ -24,6 +24,9 @@ nothing_settles (Do Head ∷ symbols) v h = absurd (cc)
 nothing_settles (Do Hold ∷ symbols) v h = refl
 nothing_settles (Do Forget ∷ symbols) v h = refl
 nothing_settles (Do Plain ∷ symbols) v h = refl
+nothing_settles (Do TellTargets ∷ symbols) v h = absurd (cc)
+nothing_settles (Do TellLoop ∷ symbols) v h = absurd (cc)
+nothing_settles (Do HoldSlice ∷ symbols) v h = refl
 nothing_settles (Do (Own a) ∷ symbols) v h = refl
 
 told_stays : (t : Told) (o : Option Numbered) (n : ℕ) → told_so (Some t) o n ≡ Some t
@@ -34,30 +37,42 @@ new_told : (o : Option Numbered) (n : ℕ) (t : Told) → told_so None o n ≡ S
 new_told None n t e = absurd (none-some t e)
 new_told (Some h) n t e = sym (ap (λ (u : Told). u.known) (same_Some _ t e))
 
+settled_with : (v : Value) (head : Option Numbered) (t : Told) → v.told ≡ Some t → told_so v.told head v.read ≡ Some t
+settled_with v head t e = ap (λ (o : Option Told). told_so o head v.read) e ∙ told_stays t head v.read
+
 -- once told, it is settled
 pub settled_stays : (symbols : List Symbol) (v : Value) (t : Told) → v.told ≡ Some t → settled symbols v ≡ Some t
 settled_stays [] v t e = e
 settled_stays (Tok k ∷ symbols) v t e = e
 settled_stays (Non x ∷ symbols) v t e = e
-settled_stays (Do Head ∷ symbols) v t e = ap (λ (o : Option Told). told_so o (last_token v.items) v.read) e ∙ told_stays t (last_token v.items) v.read
+settled_stays (Do Head ∷ symbols) v t e = settled_with v (last_token v.items) t e
 settled_stays (Do Hold ∷ symbols) v t e = e
 settled_stays (Do Forget ∷ symbols) v t e = e
 settled_stays (Do Plain ∷ symbols) v t e = e
+settled_stays (Do TellTargets ∷ symbols) v t e = settled_with v (head_of_last (less 1 v.items)) t e
+settled_stays (Do TellLoop ∷ symbols) v t e = settled_with v (loop_head v.left.here.head v.bracket) t e
+settled_stays (Do HoldSlice ∷ symbols) v t e = e
 settled_stays (Do (Own a) ∷ symbols) v t e = e
+
+known_with : (v : Value) (head : Option Numbered) (t : Told) → ((u : Told) → v.told ≡ Some u → u.known ≡ v.read) → told_so v.told head v.read ≡ Some t → t.known ≡ v.read
+known_with v head t h e = go v.told refl e
+  where
+    go : (o : Option Told) → v.told ≡ o → told_so o head v.read ≡ Some t → t.known ≡ v.read
+    go None s e = new_told head v.read t e
+    go (Some u) s e = let same : u ≡ t = same_Some u t (sym (told_stays u head v.read) ∙ e) in subst (λ (x : Told). x.known ≡ v.read) same (h u s)
 
 -- what is told just behind a token is known by that token
 known_now : (symbols : List Symbol) (v : Value) (t : Told) → ((u : Told) → v.told ≡ Some u → u.known ≡ v.read) → settled symbols v ≡ Some t → t.known ≡ v.read
 known_now [] v t h e = h t e
 known_now (Tok k ∷ symbols) v t h e = h t e
 known_now (Non x ∷ symbols) v t h e = h t e
-known_now (Do Head ∷ symbols) v t h e = go v.told refl e
-  where
-    go : (o : Option Told) → v.told ≡ o → told_so o (last_token v.items) v.read ≡ Some t → t.known ≡ v.read
-    go None s e = new_told (last_token v.items) v.read t e
-    go (Some u) s e = let same : u ≡ t = same_Some u t (sym (told_stays u (last_token v.items) v.read) ∙ e) in subst (λ (x : Told). x.known ≡ v.read) same (h u s)
+known_now (Do Head ∷ symbols) v t h e = known_with v (last_token v.items) t h e
 known_now (Do Hold ∷ symbols) v t h e = h t e
 known_now (Do Forget ∷ symbols) v t h e = h t e
 known_now (Do Plain ∷ symbols) v t h e = h t e
+known_now (Do TellTargets ∷ symbols) v t h e = known_with v (head_of_last (less 1 v.items)) t h e
+known_now (Do TellLoop ∷ symbols) v t h e = known_with v (loop_head v.left.here.head v.bracket) t h e
+known_now (Do HoldSlice ∷ symbols) v t h e = h t e
 known_now (Do (Own a) ∷ symbols) v t h e = h t e
 
 -- over one token
@@ -94,5 +109,11 @@ told_later c (suc n) (Do Forget ∷ symbols) v ts w h d =
     subst (λ (o : Option Told). Later o v.read w.told) (nothing_settles symbols (act Forget v) h) (told_later c n symbols (act Forget v) ts w (headed_later symbols h) d)
 told_later c (suc n) (Do Plain ∷ symbols) v ts w h d =
     subst (λ (o : Option Told). Later o v.read w.told) (nothing_settles symbols (act Plain v) h) (told_later c n symbols (act Plain v) ts w (headed_later symbols h) d)
+told_later c (suc n) (Do TellTargets ∷ symbols) v ts w h d =
+    subst (λ (o : Option Told). Later o v.read w.told) (nothing_settles symbols (act TellTargets v) h) (told_later c n symbols (act TellTargets v) ts w (headed_later symbols h) d)
+told_later c (suc n) (Do TellLoop ∷ symbols) v ts w h d =
+    subst (λ (o : Option Told). Later o v.read w.told) (nothing_settles symbols (act TellLoop v) h) (told_later c n symbols (act TellLoop v) ts w (headed_later symbols h) d)
+told_later c (suc n) (Do HoldSlice ∷ symbols) v ts w h d =
+    subst (λ (o : Option Told). Later o v.read w.told) (nothing_settles symbols (act HoldSlice v) h) (told_later c n symbols (act HoldSlice v) ts w (headed_later symbols h) d)
 told_later c (suc n) (Do (Own a) ∷ symbols) v ts w h d =
     subst (λ (o : Option Told). Later o v.read w.told) (nothing_settles symbols (act (Own a) v) h) (told_later c n symbols (act (Own a) v) ts w (headed_later symbols h) d)

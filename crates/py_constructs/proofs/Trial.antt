@@ -9,7 +9,7 @@ use Rattle.py_constructs.specs.Construct.{Construct, construct_order, constructs
 use Rattle.py_constructs.specs.Values.{Numbered, Told, Value, begin}
 use Rattle.py_constructs.specs.Table.{Symbol, additions, extended, sets, goal}
 use Rattle.py_constructs.specs.Reached.{settled, End, head_at, IsHead, EndLaw}
-use Rattle.py_constructs.specs.Search.{Best, IsBest, better, found}
+use Rattle.py_constructs.specs.Search.{Best, IsBest, better}
 use Rattle.py_constructs.specs.OneStep.{Step, Going, Finished, Halted, one_step, OnWay}
 use Rattle.py_constructs.specs.Trial.{after, ending, search, SearchLaw}
 use Rattle.py_constructs.proofs.OnWay.{start_law, step_law, halt_law, finish_law}
@@ -56,18 +56,18 @@ end_law c ts w first end = go (nat_lt first w.read) refl
 
 -- constructs that stand in order from n on
 abbrev are_in_order : ℕ → List Construct → Bool
-are_in_order n [] = n == 42
+are_in_order n [] = n == 44
 are_in_order n (c ∷ more) = (construct_order c == n) && are_in_order (suc n) more
 
 in_order : are_in_order 0 constructs ≡ true
 in_order = refl
 
-searched : (more : List Construct) (k n : ℕ) (ts : List Token) (first : ℕ) (o p : Option Best) → are_in_order k more ≡ true → IsBest k ts first o → search more n ts first o ≡ Some p → IsBest 42 ts first p
-searched [] k n ts first o p i b e = subst (λ (m : ℕ). IsBest m ts first p) (eqb-true k 42 i) (subst (IsBest k ts first) (same_Some o p e) b)
+searched : (more : List Construct) (k n : ℕ) (ts : List Token) (first : ℕ) (o p : Option Best) → are_in_order k more ≡ true → IsBest k ts first o → search more n ts first o ≡ Some p → IsBest 44 ts first p
+searched [] k n ts first o p i b e = subst (λ (m : ℕ). IsBest m ts first p) (eqb-true k 44 i) (subst (IsBest k ts first) (same_Some o p e) b)
 searched (c ∷ more) k n ts first o p i b e = go (ending c n goal begin ts) refl e (λ q m j. searched more (suc k) n ts first q p (and_right _ _ i) m j)
   where
     go : (r : Option Value) → ending c n goal begin ts ≡ r → elim r [ None ↦ None | Some v ↦ search more n ts first (better o c (head_at first v)) ] ≡ Some p
-        → ((q : Option Best) → IsBest (suc k) ts first q → search more n ts first q ≡ Some p → IsBest 42 ts first p) → IsBest 42 ts first p
+        → ((q : Option Best) → IsBest (suc k) ts first q → search more n ts first q ≡ Some p → IsBest 44 ts first p) → IsBest 44 ts first p
     go None f s again = absurd (none-some p s)
     go (Some v) f s again =
         let order : construct_order c ≡ k = eqb-true (construct_order c) k (and_left _ _ i) in

@@ -31,6 +31,8 @@ pub data Construct : Type 0 where
   SeveralBases : Construct
   ClassKeyword : Construct
   SliceStep : Construct
+  -- a slice that is assigned to or deleted
+  SliceTarget : Construct
   LoopElse : Construct
   TryElse : Construct
   Finally : Construct
@@ -55,6 +57,8 @@ pub data Construct : Type 0 where
   RaiseFrom : Construct
   ExceptTuple : Construct
   DeleteName : Construct
+  -- brackets as one of several targets
+  NestedTarget : Construct
   StarredTarget : Construct
   -- `...`
   Ellipsis : Construct
@@ -78,6 +82,7 @@ construct_text ClassAttribute = codes "class-attribute"
 construct_text SeveralBases = codes "several-bases"
 construct_text ClassKeyword = codes "class-keyword"
 construct_text SliceStep = codes "slice-step"
+construct_text SliceTarget = codes "slice-target"
 construct_text LoopElse = codes "loop-else"
 construct_text TryElse = codes "try-else"
 construct_text Finally = codes "finally"
@@ -100,6 +105,7 @@ construct_text BareRaise = codes "bare-raise"
 construct_text RaiseFrom = codes "raise-from"
 construct_text ExceptTuple = codes "except-tuple"
 construct_text DeleteName = codes "del-name"
+construct_text NestedTarget = codes "nested-target"
 construct_text StarredTarget = codes "starred-target"
 construct_text Ellipsis = codes "ellipsis"
 
@@ -122,32 +128,34 @@ construct_order ClassAttribute = 14
 construct_order SeveralBases = 15
 construct_order ClassKeyword = 16
 construct_order SliceStep = 17
-construct_order LoopElse = 18
-construct_order TryElse = 19
-construct_order Finally = 20
-construct_order With = 21
-construct_order Async = 22
-construct_order Await = 23
-construct_order Nonlocal = 24
-construct_order YieldExpression = 25
-construct_order YieldFrom = 26
-construct_order GeneratorExpression = 27
-construct_order SetComprehension = 28
-construct_order DictComprehension = 29
-construct_order Walrus = 30
-construct_order StarImport = 31
-construct_order RelativeImport = 32
-construct_order DottedImport = 33
-construct_order NestedImport = 34
-construct_order NonasciiModule = 35
-construct_order BareRaise = 36
-construct_order RaiseFrom = 37
-construct_order ExceptTuple = 38
-construct_order DeleteName = 39
-construct_order StarredTarget = 40
-construct_order Ellipsis = 41
+construct_order SliceTarget = 18
+construct_order LoopElse = 19
+construct_order TryElse = 20
+construct_order Finally = 21
+construct_order With = 22
+construct_order Async = 23
+construct_order Await = 24
+construct_order Nonlocal = 25
+construct_order YieldExpression = 26
+construct_order YieldFrom = 27
+construct_order GeneratorExpression = 28
+construct_order SetComprehension = 29
+construct_order DictComprehension = 30
+construct_order Walrus = 31
+construct_order StarImport = 32
+construct_order RelativeImport = 33
+construct_order DottedImport = 34
+construct_order NestedImport = 35
+construct_order NonasciiModule = 36
+construct_order BareRaise = 37
+construct_order RaiseFrom = 38
+construct_order ExceptTuple = 39
+construct_order DeleteName = 40
+construct_order NestedTarget = 41
+construct_order StarredTarget = 42
+construct_order Ellipsis = 43
 
 -- all of them, in order
 abbrev pub constructs : List Construct
 constructs =
-    Float ∷ Imaginary ∷ Bytes ∷ FormattedText ∷ Division ∷ MatrixProduct ∷ Decorator ∷ Lambda ∷ NestedDefinition ∷ NestedClass ∷ StarParameter ∷ StarArgument ∷ MethodKeyword ∷ Annotation ∷ ClassAttribute ∷ SeveralBases ∷ ClassKeyword ∷ SliceStep ∷ LoopElse ∷ TryElse ∷ Finally ∷ With ∷ Async ∷ Await ∷ Nonlocal ∷ YieldExpression ∷ YieldFrom ∷ GeneratorExpression ∷ SetComprehension ∷ DictComprehension ∷ Walrus ∷ StarImport ∷ RelativeImport ∷ DottedImport ∷ NestedImport ∷ NonasciiModule ∷ BareRaise ∷ RaiseFrom ∷ ExceptTuple ∷ DeleteName ∷ StarredTarget ∷ Ellipsis ∷ []
+    Float ∷ Imaginary ∷ Bytes ∷ FormattedText ∷ Division ∷ MatrixProduct ∷ Decorator ∷ Lambda ∷ NestedDefinition ∷ NestedClass ∷ StarParameter ∷ StarArgument ∷ MethodKeyword ∷ Annotation ∷ ClassAttribute ∷ SeveralBases ∷ ClassKeyword ∷ SliceStep ∷ SliceTarget ∷ LoopElse ∷ TryElse ∷ Finally ∷ With ∷ Async ∷ Await ∷ Nonlocal ∷ YieldExpression ∷ YieldFrom ∷ GeneratorExpression ∷ SetComprehension ∷ DictComprehension ∷ Walrus ∷ StarImport ∷ RelativeImport ∷ DottedImport ∷ NestedImport ∷ NonasciiModule ∷ BareRaise ∷ RaiseFrom ∷ ExceptTuple ∷ DeleteName ∷ NestedTarget ∷ StarredTarget ∷ Ellipsis ∷ []

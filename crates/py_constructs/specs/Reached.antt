@@ -1,17 +1,17 @@
 -- Where a run stands when some tokens have been read, and what it then knows of a construct's head.
 use Rattle.std.specs.Option.{option_map}
-use Rattle.std.specs.Prelude.{◌≡◌, ℕ, ◌+◌, ◌<◌, ◌≤◌, nat_lt, if◌then◌else◌, Bool, true, false, ◌&&◌, List, [], ◌∷◌, ◌++◌, length, Option, Some, None, ◌⊎◌}
+use Rattle.std.specs.Prelude.{◌≡◌, ℕ, ◌<◌, ◌≤◌, nat_lt, if◌then◌else◌, Bool, true, false, ◌&&◌, List, [], ◌∷◌, ◌++◌, length, Option, Some, None, ◌⊎◌}
 use Rattle.grammars.specs.Grammar.{Tok, Non, Do}
 use Rattle.grammars.specs.Derivation.{Yields}
 use Rattle.grammars.specs.Sets.{have_specimens}
 use Rattle.grammars.specs.Run.{Stuck, run}
 use Rattle.py_syntax.specs.Token.{Token}
 use Rattle.py_constructs.specs.Construct.{Construct}
-use Rattle.py_constructs.specs.Values.{Numbered, Told, Value, begin, Own, Head, Hold, Forget, Plain, act}
+use Rattle.py_constructs.specs.Values.{Numbered, Told, Value, begin, Own, Head, Hold, Forget, Plain, TellTargets, TellLoop, HoldSlice, act}
 use Rattle.py_constructs.specs.Table.{Symbol, extended, sets, goal}
 use Rattle.py_constructs.specs.Standing.{StandsAt}
 
--- a head is told just behind its token; `just` says whether a token stands before these symbols
+-- a head is told just behind a token; `just` says whether a token stands before these symbols
 abbrev pub heads_follow : Bool → List Symbol → Bool
 heads_follow just [] = true
 heads_follow just (Tok k ∷ symbols) = heads_follow true symbols
@@ -20,11 +20,16 @@ heads_follow just (Do Head ∷ symbols) = just && heads_follow false symbols
 heads_follow just (Do Hold ∷ symbols) = heads_follow false symbols
 heads_follow just (Do Forget ∷ symbols) = heads_follow false symbols
 heads_follow just (Do Plain ∷ symbols) = heads_follow false symbols
+heads_follow just (Do TellTargets ∷ symbols) = just && heads_follow false symbols
+heads_follow just (Do TellLoop ∷ symbols) = just && heads_follow false symbols
+heads_follow just (Do HoldSlice ∷ symbols) = heads_follow false symbols
 heads_follow just (Do (Own a) ∷ symbols) = heads_follow false symbols
 
 -- what is told once the head of a token that was just read is
 abbrev pub settled : List Symbol → Value → Option Told
 settled (Do Head ∷ symbols) v = (act Head v).told
+settled (Do TellTargets ∷ symbols) v = (act TellTargets v).told
+settled (Do TellLoop ∷ symbols) v = (act TellLoop v).told
 settled symbols v = v.told
 
 -- these symbols and this value are what is left when these tokens have been read

@@ -34,4 +34,4 @@ NextLaw =
     → IsBest (suc (construct_order c)) ts first (better o c head)
 
 abbrev pub LastLaw : Type 0
-LastLaw = (ts : List Token) (first : ℕ) (o : Option Best) → IsBest 42 ts first o → IsFinding ts first (found o)
+LastLaw = (ts : List Token) (first : ℕ) (o : Option Best) → IsBest 44 ts first o → IsFinding ts first (found o)

@@ -10,7 +10,7 @@ use Rattle.py_syntax.specs.Tree.{Add, BitAnd, BitOr, BitXor, FloorDivide, LeftSh
 use Rattle.py_syntax.specs.Build as b
 use Rattle.py_syntax.specs.Table as t
 use Rattle.py_constructs.specs.Construct as c
-use Rattle.py_constructs.specs.Values.{Value, take_in, Action, Own, Head, Hold, Forget, Plain, act, are_targets, is_annotable, is_bare, is_deleted, is_first_argument, is_name, is_target, may_be_targets}
+use Rattle.py_constructs.specs.Values.{Value, take_in, Action, Own, Head, Hold, Forget, Plain, TellTargets, TellLoop, HoldSlice, act, Widening, NoWidening, Brackets, Slices, are_targets, are_targets_with, is_annotable, is_bare, is_deleted, is_first_argument, is_name, is_target, is_target_with, may_be_targets}
 
 pub data Name : Type 0 where
   Profile : (nonterminal : t.Nonterminal) → Name
@@ -39,6 +39,8 @@ pub data Name : Type 0 where
   RaisedTail : Name
   Yielded : Name
   Deleted : Name
+  DeletedSlice : Name
+  BindingEnd : Name
   Assigned : Name
   RightSide : Name
   UpperEnd : Name
@@ -127,56 +129,57 @@ abbrev pub profile_rows : List (Row t.Nonterminal b.Action b.Parts) → List (Ro
 profile_rows [] = []
 profile_rows (r ∷ rows) = row (map profile_symbol r.symbols) ∷ profile_rows rows
 
-abbrev pub rows_between : t.Nonterminal → List (Row Name Action Value)
-rows_between t.Compound =
+-- by what else targets may be
+abbrev pub rows_between : Widening → t.Nonterminal → List (Row Name Action Value)
+rows_between w t.Compound =
     row (Tok 31 ∷ Non NamedExpression ∷ Tok 88 ∷ Non (Profile t.Suite) ∷ Non (Profile t.Otherwise) ∷ Do (Own b.MakeIf) ∷ [])
     ∷ row (Tok 43 ∷ Non NamedExpression ∷ Tok 88 ∷ Non (Profile t.Suite) ∷ Non LoopElse ∷ Do (Own b.MakeWhile) ∷ [])
     ∷ row (Tok 28 ∷ Non (Profile t.Binding) ∷ Tok 33 ∷ Non (Profile t.ExpressionList) ∷ Tok 88 ∷ Non (Profile t.Suite) ∷ Non LoopElse ∷ Do (Own b.MakeFor) ∷ [])
     ∷ row (Tok 42 ∷ Tok 88 ∷ Non (Profile t.Suite) ∷ Do (Own b.BeginTry) ∷ Non TryTail ∷ [])
     ∷ []
-rows_between t.Otherwise =
+rows_between w t.Otherwise =
     row (Do (Own b.BeginBody) ∷ [])
     ∷ row (Tok 25 ∷ Tok 88 ∷ Non (Profile t.Suite) ∷ Do (Own b.MakeElse) ∷ [])
     ∷ row (Tok 24 ∷ Non NamedExpression ∷ Tok 88 ∷ Non (Profile t.Suite) ∷ Non (Profile t.Otherwise) ∷ Do (Own b.MakeElif) ∷ [])
     ∷ []
-rows_between t.Suite =
+rows_between w t.Suite =
     row (Do (Own b.BeginBody) ∷ Non BlockLine ∷ [])
     ∷ row (Tok 8 ∷ Do (Own b.Drop) ∷ Tok 9 ∷ Do (Own b.Drop) ∷ Do (Own b.BeginBody) ∷ Non (Profile t.Statement) ∷ Non (Profile t.Statements) ∷ Tok 10 ∷ Do (Own b.Drop) ∷ [])
     ∷ []
-rows_between t.Statement =
+rows_between w t.Statement =
     row (Non BlockLine ∷ [])
     ∷ row (Non (Profile t.Compound) ∷ Do (Own b.AddStmt) ∷ [])
     ∷ []
-rows_between t.Handler =
+rows_between w t.Handler =
     row (Tok 88 ∷ Non (Profile t.Suite) ∷ Do (Own b.CatchAll) ∷ Non HandlersEnd ∷ [])
     ∷ row (Non (Profile t.QualifiedName) ∷ Non (Profile t.HandlerAlias) ∷ [])
     ∷ []
-rows_between t.MoreHandlers =
+rows_between w t.MoreHandlers =
     row (Non HandlersEnd ∷ [])
     ∷ row (Tok 26 ∷ Non (Profile t.Handler) ∷ [])
     ∷ []
-rows_between t.Definition =
+rows_between w t.Definition =
     row (Tok 22 ∷ Non DefinitionRest ∷ [])
     ∷ []
-rows_between t.ClassDefinition =
+rows_between w t.ClassDefinition =
     row (Tok 20 ∷ Non ClassRest ∷ [])
     ∷ []
-rows_between t.BaseList =
+rows_between w t.BaseList =
     row (Tok 82 ∷ Do (Own b.Drop) ∷ Do (Own b.Drop) ∷ [])
     ∷ row (Non (Profile t.QualifiedName) ∷ Non BaseEnd ∷ [])
     ∷ []
-rows_between t.Brief =
+rows_between w t.Brief =
     row (Tok 39 ∷ Do (Own b.MakePass) ∷ Do (Own b.AddStmt) ∷ Tok 8 ∷ Do (Own b.Drop) ∷ [])
     ∷ row (Tok 3 ∷ Do (Own b.MakeLeaf) ∷ Non BriefText ∷ [])
     ∷ []
-rows_between t.ImportStatement =
+rows_between w t.ImportStatement =
     row (Tok 32 ∷ Do (Own b.BeginImport) ∷ Non (Profile t.ImportItem) ∷ Non (Profile t.ImportNext) ∷ Tok 8 ∷ Do (Own b.Drop) ∷ [])
     ∷ row (Tok 29 ∷ Non FromModule ∷ Tok 32 ∷ Do (Own b.BeginFrom) ∷ Non FromItems ∷ Tok 8 ∷ Do (Own b.Drop) ∷ [])
     ∷ []
-rows_between t.ImportItem =
+rows_between w t.ImportItem =
     row (Tok 1 ∷ Non ImportTail ∷ [])
     ∷ []
-rows_between t.Small =
+rows_between w t.Small =
     row (Non (Profile t.ExpressionList) ∷ Non (Profile t.SmallTail) ∷ [])
     ∷ row (Tok 39 ∷ Do (Own b.MakePass) ∷ [])
     ∷ row (Tok 19 ∷ Do (Own b.MakeBreak) ∷ [])
@@ -188,35 +191,47 @@ rows_between t.Small =
     ∷ row (Tok 16 ∷ Non (Profile t.Expression) ∷ Non (Profile t.AssertMessage) ∷ [])
     ∷ row (Tok 23 ∷ Non (Profile t.Atom) ∷ Non Deleted ∷ [])
     ∷ []
-rows_between t.SmallTail =
+rows_between w t.SmallTail =
     row (Do (Own b.MakeExprStmt) ∷ [])
-    ∷ guarded are_targets (Tok 91 ∷ Do (Own b.MakeTargets) ∷ Non Assigned ∷ [])
-    ∷ guarded is_target (Tok 65 ∷ Non RightSide ∷ Do (Own (b.MakeAugmented BitOr)) ∷ [])
-    ∷ guarded is_target (Tok 66 ∷ Non RightSide ∷ Do (Own (b.MakeAugmented BitXor)) ∷ [])
-    ∷ guarded is_target (Tok 64 ∷ Non RightSide ∷ Do (Own (b.MakeAugmented BitAnd)) ∷ [])
-    ∷ guarded is_target (Tok 49 ∷ Non RightSide ∷ Do (Own (b.MakeAugmented LeftShift)) ∷ [])
-    ∷ guarded is_target (Tok 50 ∷ Non RightSide ∷ Do (Own (b.MakeAugmented RightShift)) ∷ [])
-    ∷ guarded is_target (Tok 60 ∷ Non RightSide ∷ Do (Own (b.MakeAugmented Add)) ∷ [])
-    ∷ guarded is_target (Tok 61 ∷ Non RightSide ∷ Do (Own (b.MakeAugmented Subtract)) ∷ [])
-    ∷ guarded is_target (Tok 62 ∷ Non RightSide ∷ Do (Own (b.MakeAugmented Multiply)) ∷ [])
-    ∷ guarded is_target (Tok 47 ∷ Non RightSide ∷ Do (Own (b.MakeAugmented FloorDivide)) ∷ [])
-    ∷ guarded is_target (Tok 63 ∷ Non RightSide ∷ Do (Own (b.MakeAugmented Modulo)) ∷ [])
-    ∷ guarded is_target (Tok 48 ∷ Non RightSide ∷ Do (Own (b.MakeAugmented Power)) ∷ [])
+    ∷ guarded (are_targets_with w) (Tok 91 ∷ Do TellTargets ∷ Do (Own b.MakeTargets) ∷ Non Assigned ∷ [])
+    ∷ guarded (is_target_with w) (Tok 65 ∷ Do TellTargets ∷ Non RightSide ∷ Do (Own (b.MakeAugmented BitOr)) ∷ [])
+    ∷ guarded (is_target_with w) (Tok 66 ∷ Do TellTargets ∷ Non RightSide ∷ Do (Own (b.MakeAugmented BitXor)) ∷ [])
+    ∷ guarded (is_target_with w) (Tok 64 ∷ Do TellTargets ∷ Non RightSide ∷ Do (Own (b.MakeAugmented BitAnd)) ∷ [])
+    ∷ guarded (is_target_with w) (Tok 49 ∷ Do TellTargets ∷ Non RightSide ∷ Do (Own (b.MakeAugmented LeftShift)) ∷ [])
+    ∷ guarded (is_target_with w) (Tok 50 ∷ Do TellTargets ∷ Non RightSide ∷ Do (Own (b.MakeAugmented RightShift)) ∷ [])
+    ∷ guarded (is_target_with w) (Tok 60 ∷ Do TellTargets ∷ Non RightSide ∷ Do (Own (b.MakeAugmented Add)) ∷ [])
+    ∷ guarded (is_target_with w) (Tok 61 ∷ Do TellTargets ∷ Non RightSide ∷ Do (Own (b.MakeAugmented Subtract)) ∷ [])
+    ∷ guarded (is_target_with w) (Tok 62 ∷ Do TellTargets ∷ Non RightSide ∷ Do (Own (b.MakeAugmented Multiply)) ∷ [])
+    ∷ guarded (is_target_with w) (Tok 47 ∷ Do TellTargets ∷ Non RightSide ∷ Do (Own (b.MakeAugmented FloorDivide)) ∷ [])
+    ∷ guarded (is_target_with w) (Tok 63 ∷ Do TellTargets ∷ Non RightSide ∷ Do (Own (b.MakeAugmented Modulo)) ∷ [])
+    ∷ guarded (is_target_with w) (Tok 48 ∷ Do TellTargets ∷ Non RightSide ∷ Do (Own (b.MakeAugmented Power)) ∷ [])
     ∷ []
-rows_between t.AssignTail =
+rows_between w t.AssignTail =
     row (Do (Own b.MakeAssign) ∷ [])
-    ∷ guarded are_targets (Tok 91 ∷ Do (Own b.AddTargets) ∷ Non Assigned ∷ [])
+    ∷ guarded (are_targets_with w) (Tok 91 ∷ Do TellTargets ∷ Do (Own b.AddTargets) ∷ Non Assigned ∷ [])
     ∷ []
-rows_between t.Upper =
+rows_between w t.DeletedSubscript =
+    row (Non (Profile t.Expression) ∷ Non (Profile t.DeletedSubscriptTail) ∷ [])
+    ∷ row (Tok 88 ∷ Do (Own b.MakeSlice) ∷ Non (Profile t.Upper) ∷ Non DeletedSlice ∷ [])
+    ∷ []
+rows_between w t.DeletedSubscriptTail =
+    row (Tok 84 ∷ Do (Own b.MakeSubscript) ∷ Non (Profile t.DeletedEnd) ∷ [])
+    ∷ row (Tok 88 ∷ Do (Own b.MakeSliceFrom) ∷ Non (Profile t.Upper) ∷ Non DeletedSlice ∷ [])
+    ∷ []
+rows_between w t.Binding =
+    row (Non (Profile t.AnyName) ∷ Do (Own b.MakeLoopName) ∷ Non (Profile t.BindingTail) ∷ [])
+    ∷ row (Tok 81 ∷ Non (Profile t.Binding) ∷ Tok 82 ∷ Do (Own b.MakeLoopParenthesis) ∷ Non BindingEnd ∷ [])
+    ∷ []
+rows_between w t.Upper =
     row (Tok 84 ∷ Do (Own b.Drop) ∷ [])
     ∷ row (Non (Profile t.Expression) ∷ Non UpperEnd ∷ [])
     ∷ []
-rows_between t.ArgumentTail =
+rows_between w t.ArgumentTail =
     row (Do (Own b.AddArgument) ∷ [])
     ∷ row (Tok 87 ∷ Do (Own b.Drop) ∷ Do (Own b.AddArgument) ∷ Non (Profile t.Arguments) ∷ [])
     ∷ guarded is_name (Tok 91 ∷ Non (Profile t.Expression) ∷ Do (Own b.AddKeyword) ∷ Non (Profile t.KeywordNext) ∷ [])
     ∷ []
-rows_between t.Atom =
+rows_between w t.Atom =
     row (Non (Profile t.AnyName) ∷ Do (Own b.MakeLeaf) ∷ [])
     ∷ row (Tok 2 ∷ Do (Own b.MakeLeaf) ∷ [])
     ∷ row (Tok 3 ∷ Do (Own b.MakeLeaf) ∷ Non TextTail ∷ [])
@@ -227,247 +242,253 @@ rows_between t.Atom =
     ∷ row (Tok 83 ∷ Non (Profile t.Bracketed) ∷ [])
     ∷ row (Tok 85 ∷ Non (Profile t.Braced) ∷ [])
     ∷ []
-rows_between t.Parenthesised =
+rows_between w t.Parenthesised =
     row (Tok 82 ∷ Do (Own b.MakeEmptyTuple) ∷ [])
     ∷ row (Non NamedExpression ∷ Non (Profile t.ParenthesisedTail) ∷ [])
     ∷ []
-rows_between t.ParenthesisedTail =
+rows_between w t.ParenthesisedTail =
     row (Tok 82 ∷ Do (Own b.MakeParenthesis) ∷ [])
     ∷ row (Tok 87 ∷ Do (Own b.MakeTuple) ∷ Non NamedItemMore ∷ Tok 82 ∷ Do (Own b.MakeParenthesis) ∷ [])
     ∷ []
-rows_between t.Bracketed =
+rows_between w t.Bracketed =
     row (Tok 84 ∷ Do (Own b.MakeEmptyList) ∷ [])
     ∷ row (Non NamedExpression ∷ Non (Profile t.BracketedTail) ∷ [])
     ∷ []
-rows_between t.BracketedTail =
+rows_between w t.BracketedTail =
     row (Tok 84 ∷ Do (Own b.MakeListOfOne) ∷ [])
     ∷ row (Tok 87 ∷ Do (Own b.MakeTuple) ∷ Non NamedItemMore ∷ Tok 84 ∷ Do (Own b.MakeList) ∷ [])
     ∷ row (Do (Own b.BeginComprehension) ∷ Non (Profile t.Comprehension) ∷ Non (Profile t.Comprehensions) ∷ Tok 84 ∷ Do (Own b.Drop) ∷ [])
     ∷ []
-rows_between t.BracedTail =
+rows_between w t.BracedTail =
     row (Tok 86 ∷ Do (Own b.MakeSetOfOne) ∷ [])
     ∷ row (Tok 87 ∷ Do (Own b.MakeTuple) ∷ Non NamedItemMore ∷ Tok 86 ∷ Do (Own b.MakeSet) ∷ [])
     ∷ row (Tok 88 ∷ Non (Profile t.Expression) ∷ Do (Own b.BeginDict) ∷ Non FirstPairNext ∷ Tok 86 ∷ Do (Own b.Drop) ∷ [])
     ∷ []
-rows_between t.Conditions =
+rows_between w t.Conditions =
     row []
     ∷ row (Tok 31 ∷ Non (Profile t.OrTest) ∷ Non NamedCondition ∷ Do (Own b.AddCondition) ∷ Non (Profile t.Conditions) ∷ [])
     ∷ []
-rows_between x = profile_rows (t.rows x)
+rows_between w x = profile_rows (t.rows x)
 
-abbrev pub rows_of : Name → List (Row Name Action Value)
-rows_of (Profile x) = rows_between x
-rows_of NamedExpression =
+abbrev pub rows_of : Widening → Name → List (Row Name Action Value)
+rows_of w (Profile x) = rows_between w x
+rows_of w NamedExpression =
     row (Non (Profile t.Expression) ∷ Non Named ∷ [])
     ∷ []
-rows_of Named =
+rows_of w Named =
     row []
     ∷ []
-rows_of NamedCondition =
+rows_of w NamedCondition =
     row []
     ∷ []
-rows_of NamedItemMore =
+rows_of w NamedItemMore =
     row []
     ∷ row (Non NamedExpression ∷ Do (Own b.AddItem) ∷ Non NamedItemNext ∷ [])
     ∷ []
-rows_of NamedItemNext =
+rows_of w NamedItemNext =
     row []
     ∷ row (Tok 87 ∷ Do (Own b.Drop) ∷ Non NamedItemMore ∷ [])
     ∷ []
-rows_of LoopElse =
+rows_of w LoopElse =
     row []
     ∷ []
-rows_of TryTail =
+rows_of w TryTail =
     row (Tok 26 ∷ Non (Profile t.Handler) ∷ [])
     ∷ []
-rows_of HandlersEnd =
+rows_of w HandlersEnd =
     row []
     ∷ []
-rows_of BlockLine =
+rows_of w BlockLine =
     row (Non BlockSmall ∷ Do (Own b.AddStmt) ∷ Non BlockLineTail ∷ [])
     ∷ []
-rows_of BlockLineTail =
+rows_of w BlockLineTail =
     row (Tok 8 ∷ Do (Own b.Drop) ∷ [])
     ∷ row (Tok 90 ∷ Do (Own b.Drop) ∷ Non BlockLineMore ∷ [])
     ∷ []
-rows_of BlockLineMore =
+rows_of w BlockLineMore =
     row (Tok 8 ∷ Do (Own b.Drop) ∷ [])
     ∷ row (Non BlockSmall ∷ Do (Own b.AddStmt) ∷ Non BlockLineTail ∷ [])
     ∷ []
-rows_of BlockSmall =
+rows_of w BlockSmall =
     row (Non (Profile t.Small) ∷ [])
     ∷ []
-rows_of DefinitionRest =
+rows_of w DefinitionRest =
     row (Non (Profile t.AnyName) ∷ Tok 81 ∷ Do (Own b.BeginDef) ∷ Non (Profile t.ParameterList) ∷ Tok 82 ∷ Non Arrow ∷ Tok 88 ∷ Non (Profile t.Suite) ∷ Do (Own b.EndDef) ∷ [])
     ∷ []
-rows_of Arrow =
+rows_of w Arrow =
     row []
     ∷ []
-rows_of ClassRest =
+rows_of w ClassRest =
     row (Non (Profile t.AnyName) ∷ Do (Own b.BeginClass) ∷ Non (Profile t.ClassBase) ∷ Tok 88 ∷ Non (Profile t.ClassSuite) ∷ Do (Own b.EndClass) ∷ [])
     ∷ []
-rows_of BaseEnd =
+rows_of w BaseEnd =
     row (Tok 82 ∷ Do (Own b.AddBase) ∷ [])
     ∷ []
-rows_of BriefText =
+rows_of w BriefText =
     row (Do (Own b.MakeExprStmt) ∷ Do (Own b.AddStmt) ∷ Tok 8 ∷ Do (Own b.Drop) ∷ [])
     ∷ []
-rows_of FromModule =
+rows_of w FromModule =
     row (Tok 1 ∷ Non FromDots ∷ [])
     ∷ []
-rows_of FromDots =
+rows_of w FromDots =
     row []
     ∷ []
-rows_of FromItems =
+rows_of w FromItems =
     row (Non (Profile t.FromItem) ∷ Non (Profile t.FromNext) ∷ [])
     ∷ []
-rows_of ImportTail =
+rows_of w ImportTail =
     row (Non (Profile t.ImportAlias) ∷ [])
     ∷ []
-rows_of Raised =
+rows_of w Raised =
     row (Non (Profile t.Expression) ∷ Non RaisedTail ∷ [])
     ∷ []
-rows_of RaisedTail =
+rows_of w RaisedTail =
     row (Do (Own b.MakeRaise) ∷ [])
     ∷ []
-rows_of Yielded =
+rows_of w Yielded =
     row (Non (Profile t.ExpressionList) ∷ Do (Own b.MakeYield) ∷ [])
     ∷ []
-rows_of Deleted =
+rows_of w Deleted =
     row (Non (Profile t.DeletedTail) ∷ Do (Own b.MakeDelete) ∷ [])
     ∷ []
-rows_of Assigned =
-    row (Non (Profile t.ExpressionList) ∷ Non (Profile t.AssignTail) ∷ [])
+rows_of w DeletedSlice =
+    row (Non (Profile t.DeletedTail) ∷ [])
     ∷ []
-rows_of RightSide =
-    row (Non (Profile t.ExpressionList) ∷ [])
-    ∷ []
-rows_of UpperEnd =
-    row (Tok 84 ∷ Do (Own b.AddUpper) ∷ [])
-    ∷ []
-rows_of TextTail =
+rows_of w BindingEnd =
     row []
     ∷ []
-rows_of FirstPairNext =
+rows_of w Assigned =
+    row (Non (Profile t.ExpressionList) ∷ Non (Profile t.AssignTail) ∷ [])
+    ∷ []
+rows_of w RightSide =
+    row (Non (Profile t.ExpressionList) ∷ [])
+    ∷ []
+rows_of w UpperEnd =
+    row (Tok 84 ∷ Do (Own b.AddUpper) ∷ [])
+    ∷ []
+rows_of w TextTail =
+    row []
+    ∷ []
+rows_of w FirstPairNext =
     row []
     ∷ row (Tok 87 ∷ Do (Own b.Drop) ∷ Non (Profile t.PairMore) ∷ [])
     ∷ []
-rows_of MoreBytes =
+rows_of w MoreBytes =
     row []
     ∷ row (Tok 6 ∷ Do (Own b.Drop) ∷ Non MoreBytes ∷ [])
     ∷ []
-rows_of MoreTexts =
+rows_of w MoreTexts =
     row []
     ∷ row (Tok 3 ∷ Do (Own b.Drop) ∷ Non MoreTexts ∷ [])
     ∷ row (Tok 7 ∷ Do (Own b.Drop) ∷ Non MoreTexts ∷ [])
     ∷ []
-rows_of Decorated =
+rows_of w Decorated =
     row (Tok 93 ∷ Do Head ∷ Do (Own b.Drop) ∷ Non (Profile t.Expression) ∷ Tok 8 ∷ Do (Own b.Drop) ∷ Do Forget ∷ Non Decorated ∷ [])
     ∷ row (Non (Profile t.Definition) ∷ Do (Own b.AddStmt) ∷ [])
     ∷ row (Non (Profile t.ClassDefinition) ∷ Do (Own b.AddStmt) ∷ [])
     ∷ []
-rows_of DecoratedMember =
+rows_of w DecoratedMember =
     row (Tok 93 ∷ Do Head ∷ Do (Own b.Drop) ∷ Non (Profile t.Expression) ∷ Tok 8 ∷ Do (Own b.Drop) ∷ Do Forget ∷ Non DecoratedMember ∷ [])
     ∷ row (Non (Profile t.Definition) ∷ Do (Own b.AddStmt) ∷ [])
     ∷ []
-rows_of LambdaParameters =
+rows_of w LambdaParameters =
     row []
     ∷ row (Non (Profile t.AnyName) ∷ Do (Own b.Drop) ∷ Non LambdaDefault ∷ Non LambdaNext ∷ [])
     ∷ []
-rows_of LambdaDefault =
+rows_of w LambdaDefault =
     row []
     ∷ row (Tok 91 ∷ Do (Own b.Drop) ∷ Non (Profile t.Expression) ∷ Do Forget ∷ [])
     ∷ []
-rows_of LambdaNext =
+rows_of w LambdaNext =
     row []
     ∷ row (Tok 87 ∷ Do (Own b.Drop) ∷ Non LambdaParameters ∷ [])
     ∷ []
-rows_of StarName =
+rows_of w StarName =
     row (Non StarNext ∷ [])
     ∷ row (Non (Profile t.AnyName) ∷ Do (Own b.Drop) ∷ Non StarNext ∷ [])
     ∷ []
-rows_of StarNext =
+rows_of w StarNext =
     row []
     ∷ row (Tok 87 ∷ Do (Own b.Drop) ∷ Non StarMore ∷ [])
     ∷ []
-rows_of StarMore =
+rows_of w StarMore =
     row []
     ∷ row (Non (Profile t.ParameterItem) ∷ Non StarNext ∷ [])
     ∷ row (Tok 53 ∷ Do Head ∷ Do (Own b.Drop) ∷ Non (Profile t.AnyName) ∷ Do (Own b.Drop) ∷ Non StarEnd ∷ [])
     ∷ []
-rows_of StarEnd =
+rows_of w StarEnd =
     row []
     ∷ row (Tok 87 ∷ Do (Own b.Drop) ∷ [])
     ∷ []
-rows_of ArgumentsNext =
+rows_of w ArgumentsNext =
     row []
     ∷ row (Tok 87 ∷ Do (Own b.Drop) ∷ Non (Profile t.Arguments) ∷ [])
     ∷ []
-rows_of PairsNext =
+rows_of w PairsNext =
     row []
     ∷ row (Tok 87 ∷ Do (Own b.Drop) ∷ Non PairsMore ∷ [])
     ∷ []
-rows_of PairsMore =
+rows_of w PairsMore =
     row []
     ∷ row (Non (Profile t.AnyName) ∷ Do (Own b.MakeLeaf) ∷ Tok 91 ∷ Non (Profile t.Expression) ∷ Do (Own b.AddKeyword) ∷ Non PairsNext ∷ [])
     ∷ row (Tok 53 ∷ Do Head ∷ Do (Own b.Drop) ∷ Non (Profile t.Expression) ∷ Do Forget ∷ Non PairsNext ∷ [])
     ∷ []
-rows_of PlainNext =
+rows_of w PlainNext =
     row []
     ∷ row (Tok 87 ∷ Do (Own b.Drop) ∷ Non (Profile t.PlainArguments) ∷ [])
     ∷ []
-rows_of PlainPairsNext =
+rows_of w PlainPairsNext =
     row []
     ∷ row (Tok 87 ∷ Do (Own b.Drop) ∷ Non PlainPairsMore ∷ [])
     ∷ []
-rows_of PlainPairsMore =
+rows_of w PlainPairsMore =
     row []
     ∷ row (Tok 53 ∷ Do Head ∷ Do (Own b.Drop) ∷ Non (Profile t.Expression) ∷ Do Forget ∷ Non PlainPairsNext ∷ [])
     ∷ []
-rows_of PlainKeywordNext =
+rows_of w PlainKeywordNext =
     row []
     ∷ row (Tok 87 ∷ Do (Own b.Drop) ∷ Non PlainKeywordMore ∷ [])
     ∷ []
-rows_of PlainKeywordMore =
+rows_of w PlainKeywordMore =
     row []
     ∷ row (Non (Profile t.AnyName) ∷ Do (Own b.MakeLeaf) ∷ Tok 91 ∷ Do Head ∷ Non (Profile t.Expression) ∷ Do (Own b.AddKeyword) ∷ Non PlainKeywordNext ∷ [])
     ∷ []
-rows_of AnnotatedDefault =
+rows_of w AnnotatedDefault =
     row (Do (Own b.AddParameter) ∷ [])
     ∷ row (Tok 91 ∷ Non (Profile t.Expression) ∷ Do (Own b.AddDefault) ∷ [])
     ∷ []
-rows_of AnnotatedValue =
+rows_of w AnnotatedValue =
     row []
     ∷ row (Tok 91 ∷ Do (Own b.Drop) ∷ Non (Profile t.ExpressionList) ∷ Do Forget ∷ [])
     ∷ []
-rows_of AnnotatedMember =
+rows_of w AnnotatedMember =
     row (Tok 88 ∷ Do Head ∷ Do (Own b.Drop) ∷ Non (Profile t.Expression) ∷ Do Forget ∷ Non AnnotatedValue ∷ Do (Own b.MakeExprStmt) ∷ Do (Own b.AddStmt) ∷ Tok 8 ∷ Do (Own b.Drop) ∷ [])
     ∷ []
-rows_of AnnotatedBracket =
+rows_of w AnnotatedBracket =
     guarded is_annotable (Tok 88 ∷ Do Head ∷ Do (Own b.Drop) ∷ Non (Profile t.Expression) ∷ Do Forget ∷ Non AnnotatedValue ∷ Do (Own b.MakeExprStmt) ∷ Do (Own b.AddStmt) ∷ Tok 8 ∷ Do (Own b.Drop) ∷ [])
     ∷ row (Tok 89 ∷ Non (Profile t.AnyName) ∷ Do (Own b.MakeAttribute) ∷ Non TargetAttribute ∷ Non AnnotatedMember ∷ [])
     ∷ row (Tok 81 ∷ Do (Own b.BeginCall) ∷ Non (Profile t.Arguments) ∷ Tok 82 ∷ Do (Own b.Drop) ∷ Non TargetTail ∷ Non AnnotatedMember ∷ [])
     ∷ row (Tok 83 ∷ Non TargetSubscript ∷ Non AnnotatedMember ∷ [])
     ∷ []
-rows_of ClassTargets =
+rows_of w ClassTargets =
     row (Tok 91 ∷ Do Head ∷ Do (Own b.MakeTargets) ∷ Non Assigned ∷ Do (Own b.AddStmt) ∷ Tok 8 ∷ Do (Own b.Drop) ∷ [])
     ∷ row (Tok 87 ∷ Do (Own b.MakeTuple) ∷ Non ClassItems ∷ [])
     ∷ []
-rows_of ClassItems =
+rows_of w ClassItems =
     row (Tok 91 ∷ Do Head ∷ Do (Own b.MakeTargets) ∷ Non Assigned ∷ Do (Own b.AddStmt) ∷ Tok 8 ∷ Do (Own b.Drop) ∷ [])
     ∷ row (Non Target ∷ Do (Own b.AddItem) ∷ Non ClassItemNext ∷ [])
     ∷ []
-rows_of ClassItemNext =
+rows_of w ClassItemNext =
     row (Tok 91 ∷ Do Head ∷ Do (Own b.MakeTargets) ∷ Non Assigned ∷ Do (Own b.AddStmt) ∷ Tok 8 ∷ Do (Own b.Drop) ∷ [])
     ∷ row (Tok 87 ∷ Do (Own b.Drop) ∷ Non ClassItems ∷ [])
     ∷ []
-rows_of ClassBracket =
+rows_of w ClassBracket =
     guarded are_targets (Tok 91 ∷ Do Head ∷ Do (Own b.MakeTargets) ∷ Non Assigned ∷ Do (Own b.AddStmt) ∷ Tok 8 ∷ Do (Own b.Drop) ∷ [])
     ∷ row (Tok 89 ∷ Non (Profile t.AnyName) ∷ Do (Own b.MakeAttribute) ∷ Non TargetAttribute ∷ Non ClassTargets ∷ [])
     ∷ row (Tok 81 ∷ Do (Own b.BeginCall) ∷ Non (Profile t.Arguments) ∷ Tok 82 ∷ Do (Own b.Drop) ∷ Non TargetTail ∷ Non ClassTargets ∷ [])
     ∷ row (Tok 83 ∷ Non TargetSubscript ∷ Non ClassTargets ∷ [])
     ∷ []
-rows_of Target =
+rows_of w Target =
     row (Non (Profile t.AnyName) ∷ Do (Own b.MakeLeaf) ∷ Non TargetEnd ∷ [])
     ∷ row (Tok 2 ∷ Do (Own b.MakeLeaf) ∷ Non TargetTail ∷ [])
     ∷ row (Tok 3 ∷ Do (Own b.MakeLeaf) ∷ Non TargetTail ∷ [])
@@ -478,71 +499,71 @@ rows_of Target =
     ∷ row (Tok 83 ∷ Non (Profile t.Bracketed) ∷ Non TargetTail ∷ [])
     ∷ row (Tok 85 ∷ Non (Profile t.Braced) ∷ Non TargetTail ∷ [])
     ∷ []
-rows_of TargetTail =
+rows_of w TargetTail =
     row (Tok 89 ∷ Non (Profile t.AnyName) ∷ Do (Own b.MakeAttribute) ∷ Non TargetAttribute ∷ [])
     ∷ row (Tok 81 ∷ Do (Own b.BeginCall) ∷ Non (Profile t.Arguments) ∷ Tok 82 ∷ Do (Own b.Drop) ∷ Non TargetTail ∷ [])
     ∷ row (Tok 83 ∷ Non TargetSubscript ∷ [])
     ∷ []
-rows_of TargetAttribute =
+rows_of w TargetAttribute =
     row []
     ∷ row (Tok 89 ∷ Non (Profile t.AnyName) ∷ Do (Own b.MakeAttribute) ∷ Non TargetAttribute ∷ [])
     ∷ row (Tok 81 ∷ Do (Own b.BeginCall) ∷ Non (Profile t.PlainArguments) ∷ Tok 82 ∷ Do (Own b.Drop) ∷ Non TargetTail ∷ [])
     ∷ row (Tok 83 ∷ Non TargetSubscript ∷ [])
     ∷ []
-rows_of TargetEnd =
+rows_of w TargetEnd =
     row []
     ∷ row (Tok 89 ∷ Non (Profile t.AnyName) ∷ Do (Own b.MakeAttribute) ∷ Non TargetAttribute ∷ [])
     ∷ row (Tok 81 ∷ Do (Own b.BeginCall) ∷ Non (Profile t.Arguments) ∷ Tok 82 ∷ Do (Own b.Drop) ∷ Non TargetTail ∷ [])
     ∷ row (Tok 83 ∷ Non TargetSubscript ∷ [])
     ∷ []
-rows_of TargetSubscript =
+rows_of w TargetSubscript =
     row (Non (Profile t.Expression) ∷ Non TargetSubscriptTail ∷ [])
     ∷ row (Tok 88 ∷ Do (Own b.MakeSlice) ∷ Non (Profile t.Upper) ∷ Non TargetTail ∷ [])
     ∷ []
-rows_of TargetSubscriptTail =
+rows_of w TargetSubscriptTail =
     row (Tok 84 ∷ Do (Own b.MakeSubscript) ∷ Non TargetEnd ∷ [])
     ∷ row (Tok 88 ∷ Do (Own b.MakeSliceFrom) ∷ Non (Profile t.Upper) ∷ Non TargetTail ∷ [])
     ∷ []
-rows_of MoreBases =
+rows_of w MoreBases =
     row []
     ∷ row (Non (Profile t.QualifiedName) ∷ Do Forget ∷ Non BasesNext ∷ [])
     ∷ []
-rows_of BasesNext =
+rows_of w BasesNext =
     row []
     ∷ row (Tok 87 ∷ Do (Own b.Drop) ∷ Non MoreBases ∷ [])
     ∷ []
-rows_of ClassKeywordBase =
+rows_of w ClassKeywordBase =
     row (Non (Profile t.AnyName) ∷ Do (Own b.Drop) ∷ Non ClassKeywordTail ∷ [])
     ∷ []
-rows_of ClassKeywordTail =
+rows_of w ClassKeywordTail =
     row (Tok 91 ∷ Do Head ∷ Do (Own b.Drop) ∷ Non (Profile t.Expression) ∷ Do Forget ∷ Non ClassKeywordNext ∷ [])
     ∷ row (Tok 87 ∷ Do (Own b.Drop) ∷ Non ClassKeywordBase ∷ [])
     ∷ row (Tok 89 ∷ Do (Own b.Drop) ∷ Non (Profile t.AnyName) ∷ Do (Own b.Drop) ∷ Tok 87 ∷ Do (Own b.Drop) ∷ Non ClassKeywordBase ∷ [])
     ∷ []
-rows_of ClassKeywordNext =
+rows_of w ClassKeywordNext =
     row []
     ∷ row (Tok 87 ∷ Do (Own b.Drop) ∷ Non ClassKeywordMore ∷ [])
     ∷ []
-rows_of ClassKeywordMore =
+rows_of w ClassKeywordMore =
     row []
     ∷ row (Non (Profile t.AnyName) ∷ Do (Own b.Drop) ∷ Tok 91 ∷ Do (Own b.Drop) ∷ Non (Profile t.Expression) ∷ Do Forget ∷ Non ClassKeywordNext ∷ [])
     ∷ []
-rows_of Step =
+rows_of w Step =
     row (Tok 84 ∷ Do (Own b.Drop) ∷ [])
     ∷ row (Non (Profile t.Expression) ∷ Do Forget ∷ Tok 84 ∷ Do (Own b.Drop) ∷ [])
     ∷ []
-rows_of UpperStep =
+rows_of w UpperStep =
     row (Tok 84 ∷ Do (Own b.AddUpper) ∷ [])
     ∷ row (Non (Profile t.Expression) ∷ Do Forget ∷ Tok 84 ∷ Do (Own b.AddUpper) ∷ [])
     ∷ []
-rows_of WithItem =
+rows_of w WithItem =
     row (Non (Profile t.Expression) ∷ Non WithTarget ∷ [])
     ∷ []
-rows_of WithTarget =
+rows_of w WithTarget =
     row []
     ∷ row (Tok 15 ∷ Do (Own b.Drop) ∷ Non WithBinding ∷ [])
     ∷ []
-rows_of WithBinding =
+rows_of w WithBinding =
     row (Non (Profile t.AnyName) ∷ Do (Own b.MakeLeaf) ∷ Non TargetEnd ∷ Do Forget ∷ [])
     ∷ row (Tok 2 ∷ Do (Own b.MakeLeaf) ∷ Non TargetTail ∷ Do Forget ∷ [])
     ∷ row (Tok 3 ∷ Do (Own b.MakeLeaf) ∷ Non TargetTail ∷ Do Forget ∷ [])
@@ -553,84 +574,84 @@ rows_of WithBinding =
     ∷ row (Tok 83 ∷ Non (Profile t.Bracketed) ∷ Non WithBracket ∷ Do Forget ∷ [])
     ∷ row (Tok 85 ∷ Non (Profile t.Braced) ∷ Non TargetTail ∷ Do Forget ∷ [])
     ∷ []
-rows_of WithBracket =
+rows_of w WithBracket =
     guarded are_targets []
     ∷ row (Tok 89 ∷ Non (Profile t.AnyName) ∷ Do (Own b.MakeAttribute) ∷ Non TargetAttribute ∷ [])
     ∷ row (Tok 81 ∷ Do (Own b.BeginCall) ∷ Non (Profile t.Arguments) ∷ Tok 82 ∷ Do (Own b.Drop) ∷ Non TargetTail ∷ [])
     ∷ row (Tok 83 ∷ Non TargetSubscript ∷ [])
     ∷ []
-rows_of WithNext =
+rows_of w WithNext =
     row []
     ∷ row (Tok 87 ∷ Do (Own b.Drop) ∷ Non WithItem ∷ Do Forget ∷ Non WithNext ∷ [])
     ∷ []
-rows_of AsyncStatement =
+rows_of w AsyncStatement =
     row (Non (Profile t.Definition) ∷ [])
     ∷ row (Tok 28 ∷ Non (Profile t.Binding) ∷ Tok 33 ∷ Non (Profile t.ExpressionList) ∷ Tok 88 ∷ Non (Profile t.Suite) ∷ Do (Own b.MakeFor) ∷ [])
     ∷ row (Tok 44 ∷ Non WithItem ∷ Tok 88 ∷ Non (Profile t.Suite) ∷ Do (Own b.MakeWhile) ∷ [])
     ∷ []
-rows_of YieldValue =
+rows_of w YieldValue =
     row (Do (Own b.MakeNone) ∷ [])
     ∷ row (Non (Profile t.ExpressionList) ∷ Do (Own b.MakeNot) ∷ [])
     ∷ []
-rows_of HeadedLoop =
+rows_of w HeadedLoop =
     row (Do (Own b.Drop) ∷ Non (Profile t.Binding) ∷ Do Forget ∷ Tok 33 ∷ Do (Own b.Drop) ∷ Non (Profile t.OrTest) ∷ Do Forget ∷ Non LoopConditions ∷ Non LoopMore ∷ [])
     ∷ []
-rows_of LoopConditions =
+rows_of w LoopConditions =
     row []
     ∷ row (Tok 31 ∷ Do (Own b.Drop) ∷ Non (Profile t.OrTest) ∷ Do Forget ∷ Non LoopConditions ∷ [])
     ∷ []
-rows_of LoopMore =
+rows_of w LoopMore =
     row []
     ∷ row (Tok 28 ∷ Non HeadedLoop ∷ [])
     ∷ []
-rows_of WalrusArgument =
+rows_of w WalrusArgument =
     row (Do (Own b.AddArgument) ∷ [])
     ∷ row (Tok 87 ∷ Do (Own b.Drop) ∷ Do (Own b.AddArgument) ∷ Non (Profile t.Arguments) ∷ [])
     ∷ []
-rows_of PlainWalrusArgument =
+rows_of w PlainWalrusArgument =
     row (Do (Own b.AddArgument) ∷ [])
     ∷ row (Tok 87 ∷ Do (Own b.Drop) ∷ Do (Own b.AddArgument) ∷ Non (Profile t.PlainArguments) ∷ [])
     ∷ []
-rows_of WalrusSet =
+rows_of w WalrusSet =
     row (Tok 86 ∷ Do (Own b.MakeSetOfOne) ∷ [])
     ∷ row (Tok 87 ∷ Do (Own b.MakeTuple) ∷ Non NamedItemMore ∷ Tok 86 ∷ Do (Own b.MakeSet) ∷ [])
     ∷ []
-rows_of RelativeModule =
+rows_of w RelativeModule =
     row []
     ∷ row (Tok 89 ∷ Do (Own b.Drop) ∷ Non RelativeModule ∷ [])
     ∷ row (Tok 51 ∷ Do (Own b.Drop) ∷ Non RelativeModule ∷ [])
     ∷ row (Tok 1 ∷ Do (Own b.Drop) ∷ [])
     ∷ []
-rows_of ExceptNext =
+rows_of w ExceptNext =
     row []
     ∷ row (Tok 87 ∷ Do (Own b.Drop) ∷ Non ExceptMore ∷ [])
     ∷ []
-rows_of ExceptMore =
+rows_of w ExceptMore =
     row []
     ∷ row (Non (Profile t.Expression) ∷ Do Forget ∷ Non ExceptNext ∷ [])
     ∷ []
-rows_of DeletedRest =
+rows_of w DeletedRest =
     row (Do (Own b.MakeDelete) ∷ [])
     ∷ row (Tok 87 ∷ Do (Own b.Drop) ∷ Non DeletedNames ∷ Do (Own b.MakeDelete) ∷ [])
     ∷ []
-rows_of DeletedNames =
+rows_of w DeletedNames =
     row []
     ∷ row (Non DeletedName ∷ Non DeletedNamesNext ∷ [])
     ∷ []
-rows_of DeletedNamesNext =
+rows_of w DeletedNamesNext =
     row []
     ∷ row (Tok 87 ∷ Do (Own b.Drop) ∷ Non DeletedNames ∷ [])
     ∷ []
-rows_of DeletedName =
+rows_of w DeletedName =
     row (Non (Profile t.AnyName) ∷ Do (Own b.Drop) ∷ [])
     ∷ row (Tok 81 ∷ Do (Own b.Drop) ∷ Non DeletedName ∷ Non DeletedNamesNext ∷ Tok 82 ∷ Do (Own b.Drop) ∷ [])
     ∷ row (Tok 83 ∷ Do (Own b.Drop) ∷ Non DeletedName ∷ Non DeletedNamesNext ∷ Tok 84 ∷ Do (Own b.Drop) ∷ [])
     ∷ []
-rows_of StarTargets =
+rows_of w StarTargets =
     row (Tok 91 ∷ Do (Own b.MakeTargets) ∷ Non Assigned ∷ [])
     ∷ row (Tok 87 ∷ Do (Own b.Drop) ∷ Non StarTargetMore ∷ [])
     ∷ []
-rows_of StarTargetMore =
+rows_of w StarTargetMore =
     row (Tok 91 ∷ Do (Own b.MakeTargets) ∷ Non Assigned ∷ [])
     ∷ row (Non Target ∷ Do Forget ∷ Non StarTargets ∷ [])
     ∷ row (Tok 73 ∷ Do Head ∷ Do (Own b.Drop) ∷ Non Target ∷ Do Forget ∷ Non StarTargets ∷ [])
@@ -769,81 +790,85 @@ number_of Raised = 127
 number_of RaisedTail = 128
 number_of Yielded = 129
 number_of Deleted = 130
-number_of Assigned = 131
-number_of RightSide = 132
-number_of UpperEnd = 133
-number_of TextTail = 134
-number_of FirstPairNext = 135
-number_of MoreBytes = 136
-number_of MoreTexts = 137
-number_of Decorated = 138
-number_of DecoratedMember = 139
-number_of LambdaParameters = 140
-number_of LambdaDefault = 141
-number_of LambdaNext = 142
-number_of StarName = 143
-number_of StarNext = 144
-number_of StarMore = 145
-number_of StarEnd = 146
-number_of ArgumentsNext = 147
-number_of PairsNext = 148
-number_of PairsMore = 149
-number_of PlainNext = 150
-number_of PlainPairsNext = 151
-number_of PlainPairsMore = 152
-number_of PlainKeywordNext = 153
-number_of PlainKeywordMore = 154
-number_of AnnotatedDefault = 155
-number_of AnnotatedValue = 156
-number_of AnnotatedMember = 157
-number_of AnnotatedBracket = 158
-number_of ClassTargets = 159
-number_of ClassItems = 160
-number_of ClassItemNext = 161
-number_of ClassBracket = 162
-number_of Target = 163
-number_of TargetTail = 164
-number_of TargetAttribute = 165
-number_of TargetEnd = 166
-number_of TargetSubscript = 167
-number_of TargetSubscriptTail = 168
-number_of MoreBases = 169
-number_of BasesNext = 170
-number_of ClassKeywordBase = 171
-number_of ClassKeywordTail = 172
-number_of ClassKeywordNext = 173
-number_of ClassKeywordMore = 174
-number_of Step = 175
-number_of UpperStep = 176
-number_of WithItem = 177
-number_of WithTarget = 178
-number_of WithBinding = 179
-number_of WithBracket = 180
-number_of WithNext = 181
-number_of AsyncStatement = 182
-number_of YieldValue = 183
-number_of HeadedLoop = 184
-number_of LoopConditions = 185
-number_of LoopMore = 186
-number_of WalrusArgument = 187
-number_of PlainWalrusArgument = 188
-number_of WalrusSet = 189
-number_of RelativeModule = 190
-number_of ExceptNext = 191
-number_of ExceptMore = 192
-number_of DeletedRest = 193
-number_of DeletedNames = 194
-number_of DeletedNamesNext = 195
-number_of DeletedName = 196
-number_of StarTargets = 197
-number_of StarTargetMore = 198
+number_of DeletedSlice = 131
+number_of BindingEnd = 132
+number_of Assigned = 133
+number_of RightSide = 134
+number_of UpperEnd = 135
+number_of TextTail = 136
+number_of FirstPairNext = 137
+number_of MoreBytes = 138
+number_of MoreTexts = 139
+number_of Decorated = 140
+number_of DecoratedMember = 141
+number_of LambdaParameters = 142
+number_of LambdaDefault = 143
+number_of LambdaNext = 144
+number_of StarName = 145
+number_of StarNext = 146
+number_of StarMore = 147
+number_of StarEnd = 148
+number_of ArgumentsNext = 149
+number_of PairsNext = 150
+number_of PairsMore = 151
+number_of PlainNext = 152
+number_of PlainPairsNext = 153
+number_of PlainPairsMore = 154
+number_of PlainKeywordNext = 155
+number_of PlainKeywordMore = 156
+number_of AnnotatedDefault = 157
+number_of AnnotatedValue = 158
+number_of AnnotatedMember = 159
+number_of AnnotatedBracket = 160
+number_of ClassTargets = 161
+number_of ClassItems = 162
+number_of ClassItemNext = 163
+number_of ClassBracket = 164
+number_of Target = 165
+number_of TargetTail = 166
+number_of TargetAttribute = 167
+number_of TargetEnd = 168
+number_of TargetSubscript = 169
+number_of TargetSubscriptTail = 170
+number_of MoreBases = 171
+number_of BasesNext = 172
+number_of ClassKeywordBase = 173
+number_of ClassKeywordTail = 174
+number_of ClassKeywordNext = 175
+number_of ClassKeywordMore = 176
+number_of Step = 177
+number_of UpperStep = 178
+number_of WithItem = 179
+number_of WithTarget = 180
+number_of WithBinding = 181
+number_of WithBracket = 182
+number_of WithNext = 183
+number_of AsyncStatement = 184
+number_of YieldValue = 185
+number_of HeadedLoop = 186
+number_of LoopConditions = 187
+number_of LoopMore = 188
+number_of WalrusArgument = 189
+number_of PlainWalrusArgument = 190
+number_of WalrusSet = 191
+number_of RelativeModule = 192
+number_of ExceptNext = 193
+number_of ExceptMore = 194
+number_of DeletedRest = 195
+number_of DeletedNames = 196
+number_of DeletedNamesNext = 197
+number_of DeletedName = 198
+number_of StarTargets = 199
+number_of StarTargetMore = 200
 
 abbrev pub names : List Name
 names =
-    Profile t.Module ∷ Profile t.TopStatement ∷ Profile t.Statements ∷ Profile t.Statement ∷ Profile t.Compound ∷ Profile t.Otherwise ∷ Profile t.Suite ∷ Profile t.Handler ∷ Profile t.HandlerAlias ∷ Profile t.MoreHandlers ∷ Profile t.QualifiedName ∷ Profile t.QualifiedNameTail ∷ Profile t.Definition ∷ Profile t.ParameterList ∷ Profile t.ParameterNext ∷ Profile t.ParameterItem ∷ Profile t.ParameterDefault ∷ Profile t.ClassDefinition ∷ Profile t.ClassBase ∷ Profile t.BaseList ∷ Profile t.ClassSuite ∷ Profile t.Member ∷ Profile t.Members ∷ Profile t.Brief ∷ Profile t.ImportStatement ∷ Profile t.ImportItem ∷ Profile t.ImportAlias ∷ Profile t.ImportNext ∷ Profile t.FromItem ∷ Profile t.FromNext ∷ Profile t.Line ∷ Profile t.LineTail ∷ Profile t.LineMore ∷ Profile t.Small ∷ Profile t.SmallTail ∷ Profile t.AssignTail ∷ Profile t.Returned ∷ Profile t.GlobalNext ∷ Profile t.AssertMessage ∷ Profile t.DeletedTail ∷ Profile t.DeletedAttribute ∷ Profile t.DeletedEnd ∷ Profile t.DeletedSubscript ∷ Profile t.DeletedSubscriptTail ∷ Profile t.Binding ∷ Profile t.BindingTail ∷ Profile t.BindingMore ∷ Profile t.BindingNext ∷ Profile t.ExpressionList ∷ Profile t.ExpressionListTail ∷ Profile t.ItemMore ∷ Profile t.ItemNext ∷ Profile t.Expression ∷ Profile t.ExpressionTail ∷ Profile t.OrTest ∷ Profile t.OrTail ∷ Profile t.OrMore ∷ Profile t.AndTest ∷ Profile t.AndTail ∷ Profile t.AndMore ∷ Profile t.NotTest ∷ Profile t.Comparison ∷ Profile t.ComparisonTail ∷ Profile t.ComparisonMore ∷ Profile t.ComparisonSign ∷ Profile t.IsTail ∷ Profile t.OrExpr ∷ Profile t.OrExprTail ∷ Profile t.XorExpr ∷ Profile t.XorExprTail ∷ Profile t.AndExpr ∷ Profile t.AndExprTail ∷ Profile t.ShiftExpr ∷ Profile t.ShiftTail ∷ Profile t.Sum ∷ Profile t.SumTail ∷ Profile t.Product ∷ Profile t.ProductTail ∷ Profile t.Factor ∷ Profile t.PowerExpr ∷ Profile t.PowerTail ∷ Profile t.Primary ∷ Profile t.PrimaryTail ∷ Profile t.AttributeTail ∷ Profile t.Subscription ∷ Profile t.SubscriptionTail ∷ Profile t.Upper ∷ Profile t.Arguments ∷ Profile t.ArgumentTail ∷ Profile t.KeywordNext ∷ Profile t.KeywordMore ∷ Profile t.PlainArguments ∷ Profile t.PlainArgumentTail ∷ Profile t.Atom ∷ Profile t.Parenthesised ∷ Profile t.ParenthesisedTail ∷ Profile t.Bracketed ∷ Profile t.BracketedTail ∷ Profile t.Braced ∷ Profile t.BracedTail ∷ Profile t.PairNext ∷ Profile t.PairMore ∷ Profile t.Comprehension ∷ Profile t.Conditions ∷ Profile t.Comprehensions ∷ Profile t.AnyName ∷ NamedExpression ∷ Named ∷ NamedCondition ∷ NamedItemMore ∷ NamedItemNext ∷ LoopElse ∷ TryTail ∷ HandlersEnd ∷ BlockLine ∷ BlockLineTail ∷ BlockLineMore ∷ BlockSmall ∷ DefinitionRest ∷ Arrow ∷ ClassRest ∷ BaseEnd ∷ BriefText ∷ FromModule ∷ FromDots ∷ FromItems ∷ ImportTail ∷ Raised ∷ RaisedTail ∷ Yielded ∷ Deleted ∷ Assigned ∷ RightSide ∷ UpperEnd ∷ TextTail ∷ FirstPairNext ∷ MoreBytes ∷ MoreTexts ∷ Decorated ∷ DecoratedMember ∷ LambdaParameters ∷ LambdaDefault ∷ LambdaNext ∷ StarName ∷ StarNext ∷ StarMore ∷ StarEnd ∷ ArgumentsNext ∷ PairsNext ∷ PairsMore ∷ PlainNext ∷ PlainPairsNext ∷ PlainPairsMore ∷ PlainKeywordNext ∷ PlainKeywordMore ∷ AnnotatedDefault ∷ AnnotatedValue ∷ AnnotatedMember ∷ AnnotatedBracket ∷ ClassTargets ∷ ClassItems ∷ ClassItemNext ∷ ClassBracket ∷ Target ∷ TargetTail ∷ TargetAttribute ∷ TargetEnd ∷ TargetSubscript ∷ TargetSubscriptTail ∷ MoreBases ∷ BasesNext ∷ ClassKeywordBase ∷ ClassKeywordTail ∷ ClassKeywordNext ∷ ClassKeywordMore ∷ Step ∷ UpperStep ∷ WithItem ∷ WithTarget ∷ WithBinding ∷ WithBracket ∷ WithNext ∷ AsyncStatement ∷ YieldValue ∷ HeadedLoop ∷ LoopConditions ∷ LoopMore ∷ WalrusArgument ∷ PlainWalrusArgument ∷ WalrusSet ∷ RelativeModule ∷ ExceptNext ∷ ExceptMore ∷ DeletedRest ∷ DeletedNames ∷ DeletedNamesNext ∷ DeletedName ∷ StarTargets ∷ StarTargetMore ∷ []
+    Profile t.Module ∷ Profile t.TopStatement ∷ Profile t.Statements ∷ Profile t.Statement ∷ Profile t.Compound ∷ Profile t.Otherwise ∷ Profile t.Suite ∷ Profile t.Handler ∷ Profile t.HandlerAlias ∷ Profile t.MoreHandlers ∷ Profile t.QualifiedName ∷ Profile t.QualifiedNameTail ∷ Profile t.Definition ∷ Profile t.ParameterList ∷ Profile t.ParameterNext ∷ Profile t.ParameterItem ∷ Profile t.ParameterDefault ∷ Profile t.ClassDefinition ∷ Profile t.ClassBase ∷ Profile t.BaseList ∷ Profile t.ClassSuite ∷ Profile t.Member ∷ Profile t.Members ∷ Profile t.Brief ∷ Profile t.ImportStatement ∷ Profile t.ImportItem ∷ Profile t.ImportAlias ∷ Profile t.ImportNext ∷ Profile t.FromItem ∷ Profile t.FromNext ∷ Profile t.Line ∷ Profile t.LineTail ∷ Profile t.LineMore ∷ Profile t.Small ∷ Profile t.SmallTail ∷ Profile t.AssignTail ∷ Profile t.Returned ∷ Profile t.GlobalNext ∷ Profile t.AssertMessage ∷ Profile t.DeletedTail ∷ Profile t.DeletedAttribute ∷ Profile t.DeletedEnd ∷ Profile t.DeletedSubscript ∷ Profile t.DeletedSubscriptTail ∷ Profile t.Binding ∷ Profile t.BindingTail ∷ Profile t.BindingMore ∷ Profile t.BindingNext ∷ Profile t.ExpressionList ∷ Profile t.ExpressionListTail ∷ Profile t.ItemMore ∷ Profile t.ItemNext ∷ Profile t.Expression ∷ Profile t.ExpressionTail ∷ Profile t.OrTest ∷ Profile t.OrTail ∷ Profile t.OrMore ∷ Profile t.AndTest ∷ Profile t.AndTail ∷ Profile t.AndMore ∷ Profile t.NotTest ∷ Profile t.Comparison ∷ Profile t.ComparisonTail ∷ Profile t.ComparisonMore ∷ Profile t.ComparisonSign ∷ Profile t.IsTail ∷ Profile t.OrExpr ∷ Profile t.OrExprTail ∷ Profile t.XorExpr ∷ Profile t.XorExprTail ∷ Profile t.AndExpr ∷ Profile t.AndExprTail ∷ Profile t.ShiftExpr ∷ Profile t.ShiftTail ∷ Profile t.Sum ∷ Profile t.SumTail ∷ Profile t.Product ∷ Profile t.ProductTail ∷ Profile t.Factor ∷ Profile t.PowerExpr ∷ Profile t.PowerTail ∷ Profile t.Primary ∷ Profile t.PrimaryTail ∷ Profile t.AttributeTail ∷ Profile t.Subscription ∷ Profile t.SubscriptionTail ∷ Profile t.Upper ∷ Profile t.Arguments ∷ Profile t.ArgumentTail ∷ Profile t.KeywordNext ∷ Profile t.KeywordMore ∷ Profile t.PlainArguments ∷ Profile t.PlainArgumentTail ∷ Profile t.Atom ∷ Profile t.Parenthesised ∷ Profile t.ParenthesisedTail ∷ Profile t.Bracketed ∷ Profile t.BracketedTail ∷ Profile t.Braced ∷ Profile t.BracedTail ∷ Profile t.PairNext ∷ Profile t.PairMore ∷ Profile t.Comprehension ∷ Profile t.Conditions ∷ Profile t.Comprehensions ∷ Profile t.AnyName ∷ NamedExpression ∷ Named ∷ NamedCondition ∷ NamedItemMore ∷ NamedItemNext ∷ LoopElse ∷ TryTail ∷ HandlersEnd ∷ BlockLine ∷ BlockLineTail ∷ BlockLineMore ∷ BlockSmall ∷ DefinitionRest ∷ Arrow ∷ ClassRest ∷ BaseEnd ∷ BriefText ∷ FromModule ∷ FromDots ∷ FromItems ∷ ImportTail ∷ Raised ∷ RaisedTail ∷ Yielded ∷ Deleted ∷ DeletedSlice ∷ BindingEnd ∷ Assigned ∷ RightSide ∷ UpperEnd ∷ TextTail ∷ FirstPairNext ∷ MoreBytes ∷ MoreTexts ∷ Decorated ∷ DecoratedMember ∷ LambdaParameters ∷ LambdaDefault ∷ LambdaNext ∷ StarName ∷ StarNext ∷ StarMore ∷ StarEnd ∷ ArgumentsNext ∷ PairsNext ∷ PairsMore ∷ PlainNext ∷ PlainPairsNext ∷ PlainPairsMore ∷ PlainKeywordNext ∷ PlainKeywordMore ∷ AnnotatedDefault ∷ AnnotatedValue ∷ AnnotatedMember ∷ AnnotatedBracket ∷ ClassTargets ∷ ClassItems ∷ ClassItemNext ∷ ClassBracket ∷ Target ∷ TargetTail ∷ TargetAttribute ∷ TargetEnd ∷ TargetSubscript ∷ TargetSubscriptTail ∷ MoreBases ∷ BasesNext ∷ ClassKeywordBase ∷ ClassKeywordTail ∷ ClassKeywordNext ∷ ClassKeywordMore ∷ Step ∷ UpperStep ∷ WithItem ∷ WithTarget ∷ WithBinding ∷ WithBracket ∷ WithNext ∷ AsyncStatement ∷ YieldValue ∷ HeadedLoop ∷ LoopConditions ∷ LoopMore ∷ WalrusArgument ∷ PlainWalrusArgument ∷ WalrusSet ∷ RelativeModule ∷ ExceptNext ∷ ExceptMore ∷ DeletedRest ∷ DeletedNames ∷ DeletedNamesNext ∷ DeletedName ∷ StarTargets ∷ StarTargetMore ∷ []
 
 pub data Addition : Type 0 where
   to : (name : Name) → (rows : List (Row Name Action Value)) → Addition
+  -- more may be targets
+  widened : (by : Widening) → Addition
 
 -- what each construct adds
 abbrev pub additions : c.Construct → List Addition
@@ -914,6 +939,10 @@ additions c.ClassKeyword =
 additions c.SliceStep =
     to (Profile t.Upper) (row (Tok 88 ∷ Do Head ∷ Do (Own b.Drop) ∷ Non Step ∷ []) ∷ [])
     ∷ to UpperEnd (row (Tok 88 ∷ Do Head ∷ Do (Own b.Drop) ∷ Non UpperStep ∷ []) ∷ [])
+    ∷ []
+additions c.SliceTarget =
+    widened Slices
+    ∷ to DeletedSlice (row (Do HoldSlice ∷ []) ∷ [])
     ∷ []
 additions c.LoopElse =
     to LoopElse (row (Tok 25 ∷ Do Head ∷ Do (Own b.Drop) ∷ Tok 88 ∷ Do (Own b.Drop) ∷ Non (Profile t.Suite) ∷ Do Forget ∷ []) ∷ [])
@@ -998,6 +1027,12 @@ additions c.ExceptTuple =
 additions c.DeleteName =
     to Deleted (guarded is_deleted (Do Hold ∷ Non DeletedRest ∷ []) ∷ [])
     ∷ []
+additions c.NestedTarget =
+    widened Brackets
+    ∷ to (Profile t.Binding) (row (Tok 83 ∷ Do TellLoop ∷ Non (Profile t.Binding) ∷ Tok 84 ∷ Do (Own b.MakeLoopParenthesis) ∷ Tok 87 ∷ Do (Own b.MakeLoopNames) ∷ Non (Profile t.BindingMore) ∷ []) ∷ [])
+    ∷ to BindingEnd (row (Tok 87 ∷ Do TellLoop ∷ Do (Own b.MakeLoopNames) ∷ Non (Profile t.BindingMore) ∷ []) ∷ [])
+    ∷ to (Profile t.BindingMore) (row (Tok 81 ∷ Do TellLoop ∷ Non (Profile t.Binding) ∷ Tok 82 ∷ Do (Own b.MakeLoopParenthesis) ∷ Do (Own b.AddLoopName) ∷ Non (Profile t.BindingNext) ∷ []) ∷ row (Tok 83 ∷ Do TellLoop ∷ Non (Profile t.Binding) ∷ Tok 84 ∷ Do (Own b.MakeLoopParenthesis) ∷ Do (Own b.AddLoopName) ∷ Non (Profile t.BindingNext) ∷ []) ∷ [])
+    ∷ []
 additions c.StarredTarget =
     to (Profile t.Binding) (row (Tok 73 ∷ Do Head ∷ Do (Own b.Drop) ∷ Non (Profile t.AnyName) ∷ Do (Own b.MakeLoopName) ∷ Non (Profile t.BindingTail) ∷ []) ∷ [])
     ∷ to (Profile t.BindingMore) (row (Tok 73 ∷ Do Head ∷ Do (Own b.Drop) ∷ Non (Profile t.AnyName) ∷ Do (Own b.AddLoopName) ∷ Non (Profile t.BindingNext) ∷ []) ∷ [])
@@ -1015,9 +1050,15 @@ additions c.Ellipsis =
 abbrev pub added_to : ℕ → List Addition → List (Row Name Action Value)
 added_to n [] = []
 added_to n (to x rows ∷ more) = if number_of x == n then rows ++ added_to n more else added_to n more
+added_to n (widened w ∷ more) = added_to n more
+
+abbrev pub widening_of : List Addition → Widening
+widening_of [] = NoWidening
+widening_of (to x rows ∷ more) = widening_of more
+widening_of (widened w ∷ more) = w
 
 abbrev pub rows_with : List Addition → Name → List (Row Name Action Value)
-rows_with more x = rows_of x ++ added_to (number_of x) more
+rows_with more x = rows_of (widening_of more) x ++ added_to (number_of x) more
 
 -- with these additions
 abbrev pub grammar_with : List Addition → Grammar Name Action Token Value
@@ -1162,6 +1203,8 @@ nullable Raised = true
 nullable RaisedTail = true
 nullable Yielded = false
 nullable Deleted = true
+nullable DeletedSlice = true
+nullable BindingEnd = true
 nullable Assigned = false
 nullable RightSide = false
 nullable UpperEnd = false
@@ -1276,9 +1319,9 @@ first (Profile t.DeletedAttribute) = Some 81 ∷ Some 83 ∷ Some 89 ∷ []
 first (Profile t.DeletedEnd) = Some 81 ∷ Some 83 ∷ Some 89 ∷ []
 first (Profile t.DeletedSubscript) = Some 0 ∷ Some 1 ∷ Some 2 ∷ Some 3 ∷ Some 4 ∷ Some 5 ∷ Some 6 ∷ Some 7 ∷ Some 11 ∷ Some 12 ∷ Some 13 ∷ Some 18 ∷ Some 35 ∷ Some 37 ∷ Some 51 ∷ Some 71 ∷ Some 72 ∷ Some 78 ∷ Some 81 ∷ Some 83 ∷ Some 85 ∷ Some 88 ∷ []
 first (Profile t.DeletedSubscriptTail) = Some 70 ∷ Some 84 ∷ Some 88 ∷ []
-first (Profile t.Binding) = Some 0 ∷ Some 1 ∷ Some 73 ∷ Some 81 ∷ []
+first (Profile t.Binding) = Some 0 ∷ Some 1 ∷ Some 73 ∷ Some 81 ∷ Some 83 ∷ []
 first (Profile t.BindingTail) = Some 87 ∷ []
-first (Profile t.BindingMore) = Some 0 ∷ Some 1 ∷ Some 73 ∷ []
+first (Profile t.BindingMore) = Some 0 ∷ Some 1 ∷ Some 73 ∷ Some 81 ∷ Some 83 ∷ []
 first (Profile t.BindingNext) = Some 87 ∷ []
 first (Profile t.ExpressionList) = Some 0 ∷ Some 1 ∷ Some 2 ∷ Some 3 ∷ Some 4 ∷ Some 5 ∷ Some 6 ∷ Some 7 ∷ Some 11 ∷ Some 12 ∷ Some 13 ∷ Some 18 ∷ Some 35 ∷ Some 37 ∷ Some 51 ∷ Some 71 ∷ Some 72 ∷ Some 78 ∷ Some 81 ∷ Some 83 ∷ Some 85 ∷ []
 first (Profile t.ExpressionListTail) = Some 87 ∷ []
@@ -1363,6 +1406,8 @@ first Raised = Some 0 ∷ Some 1 ∷ Some 2 ∷ Some 3 ∷ Some 4 ∷ Some 5 ∷
 first RaisedTail = Some 29 ∷ []
 first Yielded = Some 0 ∷ Some 1 ∷ Some 2 ∷ Some 3 ∷ Some 4 ∷ Some 5 ∷ Some 6 ∷ Some 7 ∷ Some 11 ∷ Some 12 ∷ Some 13 ∷ Some 18 ∷ Some 29 ∷ Some 35 ∷ Some 37 ∷ Some 51 ∷ Some 71 ∷ Some 72 ∷ Some 78 ∷ Some 81 ∷ Some 83 ∷ Some 85 ∷ []
 first Deleted = Some 81 ∷ Some 83 ∷ Some 87 ∷ Some 89 ∷ []
+first DeletedSlice = Some 81 ∷ Some 83 ∷ Some 89 ∷ []
+first BindingEnd = Some 87 ∷ []
 first Assigned = Some 0 ∷ Some 1 ∷ Some 2 ∷ Some 3 ∷ Some 4 ∷ Some 5 ∷ Some 6 ∷ Some 7 ∷ Some 11 ∷ Some 12 ∷ Some 13 ∷ Some 18 ∷ Some 35 ∷ Some 37 ∷ Some 45 ∷ Some 51 ∷ Some 71 ∷ Some 72 ∷ Some 73 ∷ Some 78 ∷ Some 81 ∷ Some 83 ∷ Some 85 ∷ []
 first RightSide = Some 0 ∷ Some 1 ∷ Some 2 ∷ Some 3 ∷ Some 4 ∷ Some 5 ∷ Some 6 ∷ Some 7 ∷ Some 11 ∷ Some 12 ∷ Some 13 ∷ Some 18 ∷ Some 35 ∷ Some 37 ∷ Some 45 ∷ Some 51 ∷ Some 71 ∷ Some 72 ∷ Some 78 ∷ Some 81 ∷ Some 83 ∷ Some 85 ∷ []
 first UpperEnd = Some 84 ∷ Some 88 ∷ []
@@ -1416,7 +1461,7 @@ first WithBracket = Some 81 ∷ Some 83 ∷ Some 89 ∷ []
 first WithNext = Some 87 ∷ []
 first AsyncStatement = Some 22 ∷ Some 28 ∷ Some 44 ∷ []
 first YieldValue = Some 0 ∷ Some 1 ∷ Some 2 ∷ Some 3 ∷ Some 4 ∷ Some 5 ∷ Some 6 ∷ Some 7 ∷ Some 11 ∷ Some 12 ∷ Some 13 ∷ Some 18 ∷ Some 35 ∷ Some 37 ∷ Some 51 ∷ Some 71 ∷ Some 72 ∷ Some 78 ∷ Some 81 ∷ Some 83 ∷ Some 85 ∷ []
-first HeadedLoop = Some 0 ∷ Some 1 ∷ Some 73 ∷ Some 81 ∷ []
+first HeadedLoop = Some 0 ∷ Some 1 ∷ Some 73 ∷ Some 81 ∷ Some 83 ∷ []
 first LoopConditions = Some 31 ∷ []
 first LoopMore = Some 28 ∷ []
 first WalrusArgument = Some 87 ∷ []
@@ -1477,10 +1522,10 @@ follow (Profile t.DeletedAttribute) = Some 8 ∷ Some 90 ∷ []
 follow (Profile t.DeletedEnd) = Some 8 ∷ Some 90 ∷ []
 follow (Profile t.DeletedSubscript) = Some 8 ∷ Some 90 ∷ []
 follow (Profile t.DeletedSubscriptTail) = Some 8 ∷ Some 90 ∷ []
-follow (Profile t.Binding) = Some 33 ∷ Some 82 ∷ []
-follow (Profile t.BindingTail) = Some 33 ∷ Some 82 ∷ []
-follow (Profile t.BindingMore) = Some 33 ∷ Some 82 ∷ []
-follow (Profile t.BindingNext) = Some 33 ∷ Some 82 ∷ []
+follow (Profile t.Binding) = Some 33 ∷ Some 82 ∷ Some 84 ∷ []
+follow (Profile t.BindingTail) = Some 33 ∷ Some 82 ∷ Some 84 ∷ []
+follow (Profile t.BindingMore) = Some 33 ∷ Some 82 ∷ Some 84 ∷ []
+follow (Profile t.BindingNext) = Some 33 ∷ Some 82 ∷ Some 84 ∷ []
 follow (Profile t.ExpressionList) = Some 8 ∷ Some 47 ∷ Some 48 ∷ Some 49 ∷ Some 50 ∷ Some 60 ∷ Some 61 ∷ Some 62 ∷ Some 63 ∷ Some 64 ∷ Some 65 ∷ Some 66 ∷ Some 67 ∷ Some 68 ∷ Some 82 ∷ Some 88 ∷ Some 90 ∷ Some 91 ∷ []
 follow (Profile t.ExpressionListTail) = Some 8 ∷ Some 47 ∷ Some 48 ∷ Some 49 ∷ Some 50 ∷ Some 60 ∷ Some 61 ∷ Some 62 ∷ Some 63 ∷ Some 64 ∷ Some 65 ∷ Some 66 ∷ Some 67 ∷ Some 68 ∷ Some 82 ∷ Some 88 ∷ Some 90 ∷ Some 91 ∷ []
 follow (Profile t.ItemMore) = Some 8 ∷ Some 47 ∷ Some 48 ∷ Some 49 ∷ Some 50 ∷ Some 60 ∷ Some 61 ∷ Some 62 ∷ Some 63 ∷ Some 64 ∷ Some 65 ∷ Some 66 ∷ Some 67 ∷ Some 68 ∷ Some 82 ∷ Some 88 ∷ Some 90 ∷ Some 91 ∷ []
@@ -1564,6 +1609,8 @@ follow Raised = Some 8 ∷ Some 90 ∷ []
 follow RaisedTail = Some 8 ∷ Some 90 ∷ []
 follow Yielded = Some 8 ∷ Some 90 ∷ []
 follow Deleted = Some 8 ∷ Some 90 ∷ []
+follow DeletedSlice = Some 8 ∷ Some 90 ∷ []
+follow BindingEnd = Some 33 ∷ Some 82 ∷ Some 84 ∷ []
 follow Assigned = Some 8 ∷ Some 90 ∷ []
 follow RightSide = Some 8 ∷ Some 90 ∷ []
 follow UpperEnd = Some 8 ∷ Some 14 ∷ Some 15 ∷ Some 17 ∷ Some 25 ∷ Some 28 ∷ Some 29 ∷ Some 31 ∷ Some 33 ∷ Some 34 ∷ Some 37 ∷ Some 38 ∷ Some 47 ∷ Some 48 ∷ Some 49 ∷ Some 50 ∷ Some 52 ∷ Some 53 ∷ Some 54 ∷ Some 55 ∷ Some 56 ∷ Some 57 ∷ Some 58 ∷ Some 59 ∷ Some 60 ∷ Some 61 ∷ Some 62 ∷ Some 63 ∷ Some 64 ∷ Some 65 ∷ Some 66 ∷ Some 67 ∷ Some 68 ∷ Some 70 ∷ Some 71 ∷ Some 72 ∷ Some 73 ∷ Some 74 ∷ Some 75 ∷ Some 76 ∷ Some 77 ∷ Some 79 ∷ Some 80 ∷ Some 81 ∷ Some 82 ∷ Some 83 ∷ Some 84 ∷ Some 86 ∷ Some 87 ∷ Some 88 ∷ Some 89 ∷ Some 90 ∷ Some 91 ∷ Some 92 ∷ Some 93 ∷ []
@@ -1765,6 +1812,8 @@ rank Raised = 15
 rank RaisedTail = 0
 rank Yielded = 16
 rank Deleted = 17
+rank DeletedSlice = 17
+rank BindingEnd = 0
 rank Assigned = 16
 rank RightSide = 16
 rank UpperEnd = 0

@@ -6,8 +6,8 @@ use Rattle.grammars.specs.Run.{first_row, pick}
 use Rattle.grammars.proofs.Bools.{and_left, and_right}
 use Rattle.grammars.proofs.Sets.{are_apart_lem}
 use Rattle.py_syntax.specs.Table as t
-use Rattle.py_constructs.specs.Values.{Action, Value}
-use Rattle.py_constructs.specs.Table.{Name, Profile, profile_rows, rows_of, number_of, Addition, to, added_to, rows_with, grammar_with, sets}
+use Rattle.py_constructs.specs.Values.{Action, Value, Widening, NoWidening}
+use Rattle.py_constructs.specs.Table.{Name, Profile, profile_rows, rows_of, number_of, Addition, to, widened, added_to, widening_of, rows_with, grammar_with, sets}
 use Rattle.py_constructs.proofs.TableSets.{own_decided, same_name, decided}
 use Rattle.std.specs.Option.{option_map}
 use Rattle.py_table.specs.PlainSymbols as profile
@@ -50,7 +50,7 @@ picked x (r ∷ l) v s h = go (picked x l v s (and_right _ _ h)) (is_taken x s r
     go rest true false e f = rw f (none_taken x (ahead sets (sets.follow x) r.symbols) l v s (and_left _ _ h) e)
 
 decided_with : (c : Option Construct) (x : Name) → is_decided (grammar_with (additions_of c)) sets x ≡ true
-decided_with None x = own_decided x
+decided_with None x = own_decided NoWidening x
 decided_with (Some c) x = decided (plain_construct c) x
 
 pub pick_before : (c : Option Construct) (x : Name) (v : Value) (s : Sight)
@@ -77,46 +77,46 @@ count_at n zero i h = absurd (omega arith)
 count_at n (suc more) zero h = let e : n ≡ n + 0 = omega arith in ap Some e
 count_at n (suc more) (suc i) h = let e : suc n + i ≡ n + suc i = omega arith in count_at (suc n) more i (omega arith) ∙ ap Some e
 
-abbrev place_at : Name → ℕ → ℕ
-place_at x n = place_of_first (is_taken x (sight_numbered n)) (rows_of x)
+abbrev place_at : Widening → Name → ℕ → ℕ
+place_at w x n = place_of_first (is_taken x (sight_numbered n)) (rows_of w x)
 
 -- each of them, computed
-numbers_computed : (x : Name) → row_numbers x ≡ map (place_at x) (count_from 0 96)
-numbers_computed (Profile t.Module) = refl
-numbers_computed _ = refl
+numbers_computed : (w : Widening) (x : Name) → row_numbers x ≡ map (place_at w x) (count_from 0 96)
+numbers_computed w (Profile t.Module) = refl
+numbers_computed w _ = refl
 
 mapped_at : (f : ℕ → ℕ) (l : List ℕ) (i n : ℕ) → slice_get l i ≡ Some n → slice_get (map f l) i ≡ Some (f n)
 mapped_at f [] i n h = absurd (cc)
 mapped_at f (m ∷ l) zero n h = let e : m ≡ n = cc in ap (λ (k : ℕ). Some (f k)) e
 mapped_at f (m ∷ l) (suc i) n h = mapped_at f l i n h
 
-number_at : (x : Name) (n : ℕ) → n < 96 → slice_get (row_numbers x) n ≡ Some (place_at x n)
-number_at x n h =
-    ap (λ (l : List ℕ). slice_get l n) (numbers_computed x)
-    ∙ mapped_at (place_at x) (count_from 0 96) n n (let e : 0 + n ≡ n = omega arith in count_at 0 96 n h ∙ ap Some e)
+number_at : (w : Widening) (x : Name) (n : ℕ) → n < 96 → slice_get (row_numbers x) n ≡ Some (place_at w x n)
+number_at w x n h =
+    ap (λ (l : List ℕ). slice_get l n) (numbers_computed w x)
+    ∙ mapped_at (place_at w x) (count_from 0 96) n n (let e : 0 + n ≡ n = omega arith in count_at 0 96 n h ∙ ap Some e)
 
 -- the row that the number leads to
-looked_up : (x : Name) (n number : ℕ) → n < 96 → slice_get (row_numbers x) n ≡ Some number → slice_get (rows_of x) number ≡ own_before x (sight_numbered n)
-looked_up x n number h e =
-    let there : Some number ≡ Some (place_at x n) = sym e ∙ number_at x n h in
-    let same : number ≡ place_at x n = cc in
-    ap (slice_get (rows_of x)) same ∙ row_at_place (is_taken x (sight_numbered n)) (rows_of x)
+looked_up : (w : Widening) (x : Name) (n number : ℕ) → n < 96 → slice_get (row_numbers x) n ≡ Some number → slice_get (rows_of w x) number ≡ own_before w x (sight_numbered n)
+looked_up w x n number h e =
+    let there : Some number ≡ Some (place_at w x n) = sym e ∙ number_at w x n h in
+    let same : number ≡ place_at w x n = cc in
+    ap (slice_get (rows_of w x)) same ∙ row_at_place (is_taken x (sight_numbered n)) (rows_of w x)
 
-pub row_found : (x : Name) (n number : ℕ) (numbers : List ℕ) (l : List OneRow) (found : Option OneRow) → n < 96 → numbers ≡ row_numbers x
-    → slice_get numbers n ≡ Some number → l ≡ rows_of x → found ≡ slice_get l number → found ≡ own_before x (sight_numbered n)
-row_found x n number numbers l found h e f g k =
-    k ∙ ap (λ (r : List OneRow). slice_get r number) g ∙ looked_up x n number h (ap (λ (r : List ℕ). slice_get r n) (sym e) ∙ f)
+pub row_found : (w : Widening) (x : Name) (n number : ℕ) (numbers : List ℕ) (l : List OneRow) (found : Option OneRow) → n < 96 → numbers ≡ row_numbers x
+    → slice_get numbers n ≡ Some number → l ≡ rows_of w x → found ≡ slice_get l number → found ≡ own_before w x (sight_numbered n)
+row_found w x n number numbers l found h e f g k =
+    k ∙ ap (λ (r : List OneRow). slice_get r number) g ∙ looked_up w x n number h (ap (λ (r : List ℕ). slice_get r n) (sym e) ∙ f)
 
 -- there is a number at each sight
 pub number_missing : (x : Name) (n : ℕ) (numbers : List ℕ) → n < 96 → numbers ≡ row_numbers x → slice_get numbers n ≡ None → ⊥
 number_missing x n numbers h e f =
-    let there : slice_get numbers n ≡ Some (place_at x n) = ap (λ (r : List ℕ). slice_get r n) e ∙ number_at x n h in
+    let there : slice_get numbers n ≡ Some (place_at NoWidening x n) = ap (λ (r : List ℕ). slice_get r n) e ∙ number_at NoWidening x n h in
     absurd (cc)
 
-pub own_at : (l : List CodeRow) (n : ℕ) → slice_get (map plain_row l) n ≡ option_map plain_row (slice_get l n)
-own_at [] n = refl
-own_at (a ∷ l) zero = refl
-own_at (a ∷ l) (suc n) = own_at l n
+pub own_at : (w : Widening) (l : List CodeRow) (n : ℕ) → slice_get (map (plain_row w) l) n ≡ option_map (plain_row w) (slice_get l n)
+own_at w [] n = refl
+own_at w (a ∷ l) zero = refl
+own_at w (a ∷ l) (suc n) = own_at w l n
 
 pub profile_at : (l : List ProfileRow) (n : ℕ) → slice_get (profile_rows (map profile.plain_row l)) n ≡ option_map plain_profile_row (slice_get l n)
 profile_at [] n = refl
@@ -170,15 +170,16 @@ added_found x s (to y rows ∷ more) = go (number_of y == number_of x) refl (add
         ∙ ap (or_else (first_row (is_taken x s) rows)) later
         ∙ sym (first_of_both (is_taken x s) rows (added_to (number_of x) more))
     go false e later = spread_there y (number_of x) s rows (spread more) e ∙ later
+added_found x s (widened w ∷ more) = added_found x s more
 
 -- a row that stands with no construct is the one that is taken
-pub own_taken : (more : List Addition) (x : Name) (s : Sight) (r : OneRow) → own_before x s ≡ Some r → row_before more x s ≡ Some r
+pub own_taken : (more : List Addition) (x : Name) (s : Sight) (r : OneRow) → own_before (widening_of more) x s ≡ Some r → row_before more x s ≡ Some r
 own_taken more x s r h =
-    first_of_both (is_taken x s) (rows_of x) (added_to (number_of x) more) ∙ ap (λ (o : Option OneRow). or_else o (first_row (is_taken x s) (added_to (number_of x) more))) h
+    first_of_both (is_taken x s) (rows_of (widening_of more) x) (added_to (number_of x) more) ∙ ap (λ (o : Option OneRow). or_else o (first_row (is_taken x s) (added_to (number_of x) more))) h
 
 -- and otherwise one that is added
-pub added_taken : (more : List Addition) (x : Name) (s : Sight) → own_before x s ≡ None → row_before more x s ≡ first_added (number_of x) s (spread more)
+pub added_taken : (more : List Addition) (x : Name) (s : Sight) → own_before (widening_of more) x s ≡ None → row_before more x s ≡ first_added (number_of x) s (spread more)
 added_taken more x s h =
-    first_of_both (is_taken x s) (rows_of x) (added_to (number_of x) more)
+    first_of_both (is_taken x s) (rows_of (widening_of more) x) (added_to (number_of x) more)
     ∙ ap (λ (o : Option OneRow). or_else o (first_row (is_taken x s) (added_to (number_of x) more))) h
     ∙ sym (added_found x s more)

@@ -4,6 +4,7 @@ use Rattle.std.specs.List.{list_any}
 use Rattle.grammars.specs.Sets.{has, same_sight}
 use Rattle.std.specs.Option.{option_map}
 use Rattle.py_constructs.specs.Table.{profile_rows}
+use Rattle.py_constructs.specs.Values.{Widening}
 use Rattle.py_table.specs.PlainSymbols as profile
 use Rattle.py_table.specs.declared.symbol.Row.{Row as ProfileRow}
 use Rattle.py_table.specs.Sights.{sight_numbered}
@@ -30,5 +31,5 @@ added_here a n s l b e f = f ∙ sym (sights_have l s) ∙ ap (λ (t : Bool). t 
 pub profile_taken : (l : List ProfileRow) (n : ℕ) (o : Option ProfileRow) → o ≡ slice_get l n → option_map plain_profile_row o ≡ slice_get (profile_rows (map profile.plain_row l)) n
 profile_taken l n o e = ap (option_map plain_profile_row) e ∙ sym (profile_at l n)
 
-pub own_row_taken : (l : List CodeRow) (n : ℕ) (o : Option CodeRow) → o ≡ slice_get l n → option_map plain_row o ≡ slice_get (map plain_row l) n
-own_row_taken l n o e = ap (option_map plain_row) e ∙ sym (own_at l n)
+pub own_row_taken : (w : Widening) (l : List CodeRow) (n : ℕ) (o : Option CodeRow) → o ≡ slice_get l n → option_map (plain_row w) o ≡ slice_get (map (plain_row w) l) n
+own_row_taken w l n o e = ap (option_map (plain_row w)) e ∙ sym (own_at w l n)

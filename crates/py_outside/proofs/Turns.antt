@@ -1,6 +1,5 @@
 -- Steps of the run.
-use Rattle.std.proofs.Common.{◌≡◌, ℕ, Bool, true, false, List, [], ◌∷◌, ◌++◌, Option, Some, None, if◌then◌else◌, refl, sym, ap, ◌∙◌, eq-eqb}
-use Rattle.std.specs.Option.{option_map}
+use Rattle.std.proofs.Common.{◌≡◌, ℕ, Bool, true, false, List, [], ◌∷◌, ◌++◌, Option, Some, None, if◌then◌else◌, sym, ap, ◌∙◌, eq-eqb}
 use Rattle.grammars.specs.Grammar.{Tok, Non, allows, Row, Sight, sight}
 use Rattle.grammars.specs.Run.{pick}
 use Rattle.py_syntax.specs.Token.{Token}
@@ -8,7 +7,7 @@ use Rattle.py_syntax.specs.Kinds.{kind_of}
 use Rattle.py_constructs.specs.Values as values
 use Rattle.py_constructs.specs.Values.{Action, take_in}
 use Rattle.py_constructs.specs.Table.{Name, Symbol, Addition, grammar_with, sets}
-use Rattle.py_constructs.specs.OneStep.{Step, Going, Finished, Halted, expanded, one_step}
+use Rattle.py_constructs.specs.OneStep.{Going, Halted, expanded, one_step}
 use Rattle.py_table.specs.Sights.{sight_numbered, number_of_sight}
 use Rattle.py_table.proofs.Turns.{sight_of_number}
 use Rattle.py_outside.specs.Sights.{allowed}

@@ -75,9 +75,9 @@ next_one ts first o now c head n b h e m =
     subst (λ (k : ℕ). IsBest k ts first now) (sym m) (subst (λ (p : Option Best). IsBest (suc (construct_order c)) ts first p) (sym e) (next_law ts first o c head b h))
 
 pub last_one : (ts : List Token) (first : ℕ) (o now : Option Best) (c : meaning.Construct) (head : Option Numbered) (f : Option Finding) → IsBest (construct_order c) ts first o → IsHead c ts first head
-    → now ≡ better o c head → suc (construct_order c) ≡ 42 → f ≡ found now → IsFinding ts first f
+    → now ≡ better o c head → suc (construct_order c) ≡ 44 → f ≡ found now → IsFinding ts first f
 last_one ts first o now c head f b h e m g =
-    subst (IsFinding ts first) (sym g) (last_law ts first now (next_one ts first o now c head 42 b h e (sym m)))
+    subst (IsFinding ts first) (sym g) (last_law ts first now (next_one ts first o now c head 44 b h e (sym m)))
 
 -- the same stack
 pub ended_there : (more : List Addition) (all symbols : List Symbol) (v : Value) (ts : List Token) → all ≡ symbols → HasEnded more symbols v ts → HasEnded more all v ts

@@ -24,6 +24,7 @@ plain_construct construct.ClassAttribute = meaning.ClassAttribute
 plain_construct construct.SeveralBases = meaning.SeveralBases
 plain_construct construct.ClassKeyword = meaning.ClassKeyword
 plain_construct construct.SliceStep = meaning.SliceStep
+plain_construct construct.SliceTarget = meaning.SliceTarget
 plain_construct construct.LoopElse = meaning.LoopElse
 plain_construct construct.TryElse = meaning.TryElse
 plain_construct construct.Finally = meaning.Finally
@@ -46,6 +47,7 @@ plain_construct construct.BareRaise = meaning.BareRaise
 plain_construct construct.RaiseFrom = meaning.RaiseFrom
 plain_construct construct.ExceptTuple = meaning.ExceptTuple
 plain_construct construct.DeleteName = meaning.DeleteName
+plain_construct construct.NestedTarget = meaning.NestedTarget
 plain_construct construct.StarredTarget = meaning.StarredTarget
 plain_construct construct.Ellipsis = meaning.Ellipsis
 
@@ -56,5 +58,5 @@ additions_of (Some c) = additions (plain_construct c)
 
 -- what stands behind a construct in order
 abbrev pub IsNext : meaning.Construct → Option Construct → Type 0
-IsNext c None = suc (meaning.construct_order c) ≡ 42
+IsNext c None = suc (meaning.construct_order c) ≡ 44
 IsNext c (Some d) = meaning.construct_order (plain_construct d) ≡ suc (meaning.construct_order c)

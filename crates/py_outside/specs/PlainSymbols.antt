@@ -49,6 +49,8 @@ plain_name name.Raised = meaning.Raised
 plain_name name.RaisedTail = meaning.RaisedTail
 plain_name name.Yielded = meaning.Yielded
 plain_name name.Deleted = meaning.Deleted
+plain_name name.DeletedSlice = meaning.DeletedSlice
+plain_name name.BindingEnd = meaning.BindingEnd
 plain_name name.Assigned = meaning.Assigned
 plain_name name.RightSide = meaning.RightSide
 plain_name name.UpperEnd = meaning.UpperEnd
@@ -124,17 +126,22 @@ plain_action action.Head = value.Head
 plain_action action.Hold = value.Hold
 plain_action action.Forget = value.Forget
 plain_action action.Plain = value.Plain
+plain_action action.TellTargets = value.TellTargets
+plain_action action.TellLoop = value.TellLoop
+plain_action action.HoldSlice = value.HoldSlice
 
-abbrev pub plain_guard : Guard → PlainGuard value.Value
-plain_guard guard.Always = Always
-plain_guard guard.IsName = Where value.is_name
-plain_guard guard.IsTarget = Where value.is_target
-plain_guard guard.AreTargets = Where value.are_targets
-plain_guard guard.IsAnnotable = Where value.is_annotable
-plain_guard guard.IsDeleted = Where value.is_deleted
-plain_guard guard.IsBare = Where value.is_bare
-plain_guard guard.IsFirstArgument = Where value.is_first_argument
-plain_guard guard.MayBeTargets = Where value.may_be_targets
+abbrev pub plain_guard : value.Widening → Guard → PlainGuard value.Value
+plain_guard w guard.Always = Always
+plain_guard w guard.IsName = Where value.is_name
+plain_guard w guard.IsTarget = Where value.is_target
+plain_guard w guard.AreTargets = Where value.are_targets
+plain_guard w guard.IsAnnotable = Where value.is_annotable
+plain_guard w guard.IsDeleted = Where value.is_deleted
+plain_guard w guard.IsBare = Where value.is_bare
+plain_guard w guard.IsFirstArgument = Where value.is_first_argument
+plain_guard w guard.MayBeTargets = Where value.may_be_targets
+plain_guard w guard.IsTargetWith = Where (value.is_target_with w)
+plain_guard w guard.AreTargetsWith = Where (value.are_targets_with w)
 
 abbrev pub plain_symbol : Symbol → meaning.Symbol
 plain_symbol (symbol.Read kind) = Tok kind
@@ -144,20 +151,20 @@ plain_symbol (symbol.Do a) = Do (plain_action a)
 abbrev pub plain_symbols : List Symbol → List meaning.Symbol
 plain_symbols = map plain_symbol
 
-abbrev pub plain_row : Row → PlainRow meaning.Name value.Action value.Value
-plain_row r = record { guard = plain_guard r.guard; symbols = plain_symbols r.symbols.now }
+abbrev pub plain_row : value.Widening → Row → PlainRow meaning.Name value.Action value.Value
+plain_row w r = record { guard = plain_guard w r.guard; symbols = plain_symbols r.symbols.now }
 
 -- a row of the profile's table, without its guard
 abbrev pub plain_profile_row : ProfileRow → PlainRow meaning.Name value.Action value.Value
 plain_profile_row r = meaning.row (map meaning.profile_symbol (profile.plain_symbols r.symbols.now))
 
-abbrev pub plain_taken : Taken → PlainRow meaning.Name value.Action value.Value
-plain_taken (taken.Profile r) = plain_profile_row r.now
-plain_taken (taken.Own r) = plain_row r.now
+abbrev pub plain_taken : value.Widening → Taken → PlainRow meaning.Name value.Action value.Value
+plain_taken w (taken.Profile r) = plain_profile_row r.now
+plain_taken w (taken.Own r) = plain_row w r.now
 
-abbrev pub plain_rows : Rows → List (PlainRow meaning.Name value.Action value.Value)
-plain_rows (rows.Profile l) = meaning.profile_rows (map profile.plain_row l.now)
-plain_rows (rows.Own l) = map plain_row l.now
+abbrev pub plain_rows : value.Widening → Rows → List (PlainRow meaning.Name value.Action value.Value)
+plain_rows w (rows.Profile l) = meaning.profile_rows (map profile.plain_row l.now)
+plain_rows w (rows.Own l) = map (plain_row w) l.now
 
-abbrev pub plain_added : AddedRow → Added
-plain_added r = record { name = meaning.number_of (plain_name r.name); sights = map sight_numbered r.sights.now; row = plain_row r.row }
+abbrev pub plain_added : value.Widening → AddedRow → Added
+plain_added w r = record { name = meaning.number_of (plain_name r.name); sights = map sight_numbered r.sights.now; row = plain_row w r.row }

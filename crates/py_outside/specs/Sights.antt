@@ -3,8 +3,8 @@ use Rattle.std.specs.Prelude.{ℕ, suc, ◌==◌, ◌&&◌, if◌then◌else◌,
 use Rattle.grammars.specs.Grammar.{allows, Row, Sight}
 use Rattle.grammars.specs.Sets.{has, ahead}
 use Rattle.grammars.specs.Run.{first_row}
-use Rattle.py_constructs.specs.Values.{Action, Value}
-use Rattle.py_constructs.specs.Table.{Name, number_of, rows_of, Addition, to, rows_with, sets}
+use Rattle.py_constructs.specs.Values.{Action, Value, Widening}
+use Rattle.py_constructs.specs.Table.{Name, number_of, rows_of, Addition, to, widened, rows_with, sets}
 
 -- whether a row may be taken at a sight, apart from its guard
 abbrev pub is_taken : Name → Sight → Row Name Action Value → Bool
@@ -14,9 +14,9 @@ is_taken x s r = has (ahead sets (sets.follow x) r.symbols) s
 abbrev pub row_before : List Addition → Name → Sight → Option (Row Name Action Value)
 row_before more x s = first_row (is_taken x s) (rows_with more x)
 
--- the same of the rows that stand with no construct added
-abbrev pub own_before : Name → Sight → Option (Row Name Action Value)
-own_before x s = first_row (is_taken x s) (rows_of x)
+-- the same of the rows that stand with none
+abbrev pub own_before : Widening → Name → Sight → Option (Row Name Action Value)
+own_before w x s = first_row (is_taken x s) (rows_of w x)
 
 -- where the first row stands that the test takes; how many rows there are, if there is none
 abbrev pub place_of_first : (Row Name Action Value → Bool) → List (Row Name Action Value) → ℕ
@@ -42,6 +42,7 @@ spread_rows x (r ∷ rows) = record { name = number_of x; sights = ahead sets (s
 abbrev pub spread : List Addition → List Added
 spread [] = []
 spread (to x rows ∷ more) = spread_rows x rows ++ spread more
+spread (widened w ∷ more) = spread more
 
 -- the first row that is added to the name with this number and that the sight takes
 abbrev pub first_added : ℕ → Sight → List Added → Option (Row Name Action Value)

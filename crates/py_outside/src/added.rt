@@ -1,17 +1,19 @@
 //! The rows that each construct adds. `tools/additions.py` writes this file from `tools/grammar.txt` and `tools/additions.txt`.
 
 ghost use Rattle.std.specs.Prelude.{◌≡◌, map};
-ghost use Rattle.py_constructs.specs.Table.{additions};
+ghost use Rattle.py_constructs.specs.Table.{additions, widening_of};
 ghost use Rattle.py_outside.specs.PlainConstructs.{plain_construct};
 ghost use Rattle.py_outside.specs.PlainSymbols.{plain_added};
+ghost use Rattle.py_outside.specs.PlainValues.{plain_widening};
 ghost use Rattle.py_outside.specs.Sights.{spread};
 
 use crate::construct::Construct;
 use crate::symbol::AddedRow;
+use crate::targets::Widening;
 use crate::{added_literals, added_members, added_parts, added_statements};
 
 pub(crate) fn rows_added(construct: Construct) -> &'static [AddedRow]
-    ensures { map plain_added result.now ≡ spread (additions (plain_construct construct)) }
+    ensures { map (plain_added (widening_of (additions (plain_construct construct)))) result.now ≡ spread (additions (plain_construct construct)) }
 {
     match construct {
         Construct::Float => added_literals::FLOAT_ROWS,
@@ -32,6 +34,7 @@ pub(crate) fn rows_added(construct: Construct) -> &'static [AddedRow]
         Construct::SeveralBases => added_members::SEVERAL_BASES_ROWS,
         Construct::ClassKeyword => added_members::CLASS_KEYWORD_ROWS,
         Construct::SliceStep => added_statements::SLICE_STEP_ROWS,
+        Construct::SliceTarget => added_statements::SLICE_TARGET_ROWS,
         Construct::LoopElse => added_statements::LOOP_ELSE_ROWS,
         Construct::TryElse => added_statements::TRY_ELSE_ROWS,
         Construct::Finally => added_statements::FINALLY_ROWS,
@@ -54,7 +57,60 @@ pub(crate) fn rows_added(construct: Construct) -> &'static [AddedRow]
         Construct::RaiseFrom => added_parts::RAISE_FROM_ROWS,
         Construct::ExceptTuple => added_parts::EXCEPT_TUPLE_ROWS,
         Construct::DeleteName => added_parts::DELETE_NAME_ROWS,
+        Construct::NestedTarget => added_parts::NESTED_TARGET_ROWS,
         Construct::StarredTarget => added_parts::STARRED_TARGET_ROWS,
         Construct::Ellipsis => added_parts::ELLIPSIS_ROWS,
+    }
+}
+
+/// What a construct lets be targets besides the profile's.
+pub(crate) fn widening_by(construct: Construct) -> Widening
+    ensures { plain_widening result ≡ widening_of (additions (plain_construct construct)) }
+{
+    match construct {
+        Construct::SliceTarget => Widening::Slices,
+        Construct::NestedTarget => Widening::Brackets,
+        Construct::Float
+        | Construct::Imaginary
+        | Construct::Bytes
+        | Construct::FormattedText
+        | Construct::Division
+        | Construct::MatrixProduct
+        | Construct::Decorator
+        | Construct::Lambda
+        | Construct::NestedDefinition
+        | Construct::NestedClass
+        | Construct::StarParameter
+        | Construct::StarArgument
+        | Construct::MethodKeyword
+        | Construct::Annotation
+        | Construct::ClassAttribute
+        | Construct::SeveralBases
+        | Construct::ClassKeyword
+        | Construct::SliceStep
+        | Construct::LoopElse
+        | Construct::TryElse
+        | Construct::Finally
+        | Construct::With
+        | Construct::Async
+        | Construct::Await
+        | Construct::Nonlocal
+        | Construct::YieldExpression
+        | Construct::YieldFrom
+        | Construct::GeneratorExpression
+        | Construct::SetComprehension
+        | Construct::DictComprehension
+        | Construct::Walrus
+        | Construct::StarImport
+        | Construct::RelativeImport
+        | Construct::DottedImport
+        | Construct::NestedImport
+        | Construct::NonasciiModule
+        | Construct::BareRaise
+        | Construct::RaiseFrom
+        | Construct::ExceptTuple
+        | Construct::DeleteName
+        | Construct::StarredTarget
+        | Construct::Ellipsis => Widening::Nothing,
     }
 }

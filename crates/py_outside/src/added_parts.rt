@@ -2,23 +2,23 @@
 
 use crate::kind_numbers::{
     NEWLINE, OTHER_NAME, THE_CLOSE_BRACE, THE_CLOSE_BRACKET, THE_CLOSE_PARENTHESIS,
-    THE_COLON_EQUAL, THE_DOT, THE_ELLIPSIS, THE_FOR, THE_FROM, THE_IMPORT, THE_OPEN_PARENTHESIS,
-    THE_STAR,
+    THE_COLON_EQUAL, THE_COMMA, THE_DOT, THE_ELLIPSIS, THE_FOR, THE_FROM, THE_IMPORT,
+    THE_OPEN_BRACKET, THE_OPEN_PARENTHESIS, THE_STAR,
 };
-use crate::symbol::Action::{Forget, Head, Hold, Own, Plain};
+use crate::symbol::Action::{Forget, Head, Hold, Own, Plain, TellLoop};
 use crate::symbol::Name::{
-    Assigned, BlockSmall, Deleted, DeletedRest, ExceptNext, FirstPairNext, FromDots, FromItems,
-    FromModule, HeadedLoop, ImportTail, Named, NamedCondition, NamedItemMore, NamedItemNext,
-    PlainWalrusArgument, Profile, Raised, RaisedTail, RelativeModule, StarTargets, Target,
-    WalrusArgument, WalrusSet,
+    Assigned, BindingEnd, BlockSmall, Deleted, DeletedRest, ExceptNext, FirstPairNext, FromDots,
+    FromItems, FromModule, HeadedLoop, ImportTail, Named, NamedCondition, NamedItemMore,
+    NamedItemNext, PlainWalrusArgument, Profile, Raised, RaisedTail, RelativeModule, StarTargets,
+    Target, WalrusArgument, WalrusSet,
 };
 use crate::symbol::Symbol::{Do, Expand, Read};
 use crate::symbol::{AddedRow, Guard, Row};
 use py_ast::BinaryOperator;
 use py_table::symbol::Action::{
     AddArgument, AddItem, AddLoopName, AddStmt, BeginFrom, BeginImport, Drop, MakeBinary,
-    MakeClassName, MakeLoopName, MakeNone, MakeParenthesis, MakePass, MakeRaise, MakeSetOfOne,
-    MakeSubscript,
+    MakeClassName, MakeLoopName, MakeLoopNames, MakeLoopParenthesis, MakeNone, MakeParenthesis,
+    MakePass, MakeRaise, MakeSetOfOne, MakeSubscript,
 };
 use py_table::symbol::Nonterminal::{
     AnyName, ArgumentTail, AssignTail, Atom, Binding, BindingMore, BindingNext, BindingTail,
@@ -396,6 +396,71 @@ pub(crate) const DELETE_NAME_ROWS: &[AddedRow] = &[AddedRow {
         symbols: &[Do(Hold), Expand(DeletedRest)],
     },
 }];
+
+pub(crate) const NESTED_TARGET_ROWS: &[AddedRow] = &[
+    AddedRow {
+        name: Profile(Binding),
+        sights: &[83],
+        row: Row {
+            guard: Guard::Always,
+            symbols: &[
+                Read(THE_OPEN_BRACKET),
+                Do(TellLoop),
+                Expand(Profile(Binding)),
+                Read(THE_CLOSE_BRACKET),
+                Do(Own(MakeLoopParenthesis)),
+                Read(THE_COMMA),
+                Do(Own(MakeLoopNames)),
+                Expand(Profile(BindingMore)),
+            ],
+        },
+    },
+    AddedRow {
+        name: BindingEnd,
+        sights: &[87],
+        row: Row {
+            guard: Guard::Always,
+            symbols: &[
+                Read(THE_COMMA),
+                Do(TellLoop),
+                Do(Own(MakeLoopNames)),
+                Expand(Profile(BindingMore)),
+            ],
+        },
+    },
+    AddedRow {
+        name: Profile(BindingMore),
+        sights: &[81],
+        row: Row {
+            guard: Guard::Always,
+            symbols: &[
+                Read(THE_OPEN_PARENTHESIS),
+                Do(TellLoop),
+                Expand(Profile(Binding)),
+                Read(THE_CLOSE_PARENTHESIS),
+                Do(Own(MakeLoopParenthesis)),
+                Do(Own(AddLoopName)),
+                Expand(Profile(BindingNext)),
+            ],
+        },
+    },
+    AddedRow {
+        name: Profile(BindingMore),
+        sights: &[83],
+        row: Row {
+            guard: Guard::Always,
+            symbols: &[
+                Read(THE_OPEN_BRACKET),
+                Do(TellLoop),
+                Expand(Profile(Binding)),
+                Read(THE_CLOSE_BRACKET),
+                Do(Own(MakeLoopParenthesis)),
+                Do(Own(AddLoopName)),
+                Expand(Profile(BindingNext)),
+            ],
+        },
+    },
+];
 
 pub(crate) const STARRED_TARGET_ROWS: &[AddedRow] = &[
     AddedRow {

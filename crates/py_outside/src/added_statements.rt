@@ -4,10 +4,10 @@ use crate::kind_numbers::{
     THE_ASYNC, THE_AWAIT, THE_CLOSE_PARENTHESIS, THE_COLON, THE_ELSE, THE_FINALLY, THE_FOR,
     THE_FROM, THE_IN, THE_NONLOCAL, THE_WITH, THE_YIELD,
 };
-use crate::symbol::Action::{Forget, Head, Own};
+use crate::symbol::Action::{Forget, Head, HoldSlice, Own};
 use crate::symbol::Name::{
-    Assigned, AsyncStatement, HandlersEnd, LoopElse, Profile, RightSide, Step, TryTail, UpperEnd,
-    UpperStep, WithItem, WithNext, YieldValue, Yielded,
+    Assigned, AsyncStatement, DeletedSlice, HandlersEnd, LoopElse, Profile, RightSide, Step,
+    TryTail, UpperEnd, UpperStep, WithItem, WithNext, YieldValue, Yielded,
 };
 use crate::symbol::Symbol::{Do, Expand, Read};
 use crate::symbol::{AddedRow, Guard, Row};
@@ -39,6 +39,15 @@ pub(crate) const SLICE_STEP_ROWS: &[AddedRow] = &[
         },
     },
 ];
+
+pub(crate) const SLICE_TARGET_ROWS: &[AddedRow] = &[AddedRow {
+    name: DeletedSlice,
+    sights: &[8, 90],
+    row: Row {
+        guard: Guard::Always,
+        symbols: &[Do(HoldSlice)],
+    },
+}];
 
 pub(crate) const LOOP_ELSE_ROWS: &[AddedRow] = &[AddedRow {
     name: LoopElse,

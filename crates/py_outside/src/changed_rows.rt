@@ -51,14 +51,17 @@ use crate::kind_numbers::THE_TRY;
 use crate::kind_numbers::THE_WHILE;
 use crate::kind_numbers::THE_YIELD;
 use crate::symbol::Action::Own;
+use crate::symbol::Action::TellTargets;
 use crate::symbol::Guard;
 use crate::symbol::Name::Assigned;
 use crate::symbol::Name::BaseEnd;
+use crate::symbol::Name::BindingEnd;
 use crate::symbol::Name::BlockLine;
 use crate::symbol::Name::BriefText;
 use crate::symbol::Name::ClassRest;
 use crate::symbol::Name::DefinitionRest;
 use crate::symbol::Name::Deleted;
+use crate::symbol::Name::DeletedSlice;
 use crate::symbol::Name::FirstPairNext;
 use crate::symbol::Name::FromItems;
 use crate::symbol::Name::FromModule;
@@ -110,11 +113,16 @@ use py_table::symbol::Action::MakeIf;
 use py_table::symbol::Action::MakeLeaf;
 use py_table::symbol::Action::MakeList;
 use py_table::symbol::Action::MakeListOfOne;
+use py_table::symbol::Action::MakeLoopName;
+use py_table::symbol::Action::MakeLoopParenthesis;
 use py_table::symbol::Action::MakeNone;
 use py_table::symbol::Action::MakeParenthesis;
 use py_table::symbol::Action::MakePass;
 use py_table::symbol::Action::MakeSet;
 use py_table::symbol::Action::MakeSetOfOne;
+use py_table::symbol::Action::MakeSlice;
+use py_table::symbol::Action::MakeSliceFrom;
+use py_table::symbol::Action::MakeSubscript;
 use py_table::symbol::Action::MakeTargets;
 use py_table::symbol::Action::MakeTrue;
 use py_table::symbol::Action::MakeTuple;
@@ -124,6 +132,7 @@ use py_table::symbol::Nonterminal::Arguments;
 use py_table::symbol::Nonterminal::AssertMessage;
 use py_table::symbol::Nonterminal::Atom;
 use py_table::symbol::Nonterminal::Binding;
+use py_table::symbol::Nonterminal::BindingTail;
 use py_table::symbol::Nonterminal::Braced;
 use py_table::symbol::Nonterminal::Bracketed;
 use py_table::symbol::Nonterminal::BracketedTail;
@@ -131,6 +140,8 @@ use py_table::symbol::Nonterminal::Compound;
 use py_table::symbol::Nonterminal::Comprehension;
 use py_table::symbol::Nonterminal::Comprehensions;
 use py_table::symbol::Nonterminal::Conditions;
+use py_table::symbol::Nonterminal::DeletedEnd;
+use py_table::symbol::Nonterminal::DeletedSubscriptTail;
 use py_table::symbol::Nonterminal::Expression;
 use py_table::symbol::Nonterminal::ExpressionList;
 use py_table::symbol::Nonterminal::GlobalNext;
@@ -149,6 +160,7 @@ use py_table::symbol::Nonterminal::SmallTail;
 use py_table::symbol::Nonterminal::Statement;
 use py_table::symbol::Nonterminal::Statements;
 use py_table::symbol::Nonterminal::Suite;
+use py_table::symbol::Nonterminal::Upper;
 
 pub(crate) const COMPOUND_ROWS: &[Row] = &[
     Row {
@@ -415,93 +427,109 @@ pub(crate) const SMALL_TAIL_ROWS: &[Row] = &[
         symbols: &[Do(Own(MakeExprStmt))],
     },
     Row {
-        guard: Guard::AreTargets,
-        symbols: &[Read(THE_EQUAL), Do(Own(MakeTargets)), Expand(Assigned)],
+        guard: Guard::AreTargetsWith,
+        symbols: &[
+            Read(THE_EQUAL),
+            Do(TellTargets),
+            Do(Own(MakeTargets)),
+            Expand(Assigned),
+        ],
     },
     Row {
-        guard: Guard::IsTarget,
+        guard: Guard::IsTargetWith,
         symbols: &[
             Read(THE_BAR_EQUAL),
+            Do(TellTargets),
             Expand(RightSide),
             Do(Own(MakeAugmented(BinaryOperator::BitOr))),
         ],
     },
     Row {
-        guard: Guard::IsTarget,
+        guard: Guard::IsTargetWith,
         symbols: &[
             Read(THE_CARET_EQUAL),
+            Do(TellTargets),
             Expand(RightSide),
             Do(Own(MakeAugmented(BinaryOperator::BitXor))),
         ],
     },
     Row {
-        guard: Guard::IsTarget,
+        guard: Guard::IsTargetWith,
         symbols: &[
             Read(THE_AMPERSAND_EQUAL),
+            Do(TellTargets),
             Expand(RightSide),
             Do(Own(MakeAugmented(BinaryOperator::BitAnd))),
         ],
     },
     Row {
-        guard: Guard::IsTarget,
+        guard: Guard::IsTargetWith,
         symbols: &[
             Read(THE_LEFT_SHIFT_EQUAL),
+            Do(TellTargets),
             Expand(RightSide),
             Do(Own(MakeAugmented(BinaryOperator::LeftShift))),
         ],
     },
     Row {
-        guard: Guard::IsTarget,
+        guard: Guard::IsTargetWith,
         symbols: &[
             Read(THE_RIGHT_SHIFT_EQUAL),
+            Do(TellTargets),
             Expand(RightSide),
             Do(Own(MakeAugmented(BinaryOperator::RightShift))),
         ],
     },
     Row {
-        guard: Guard::IsTarget,
+        guard: Guard::IsTargetWith,
         symbols: &[
             Read(THE_PLUS_EQUAL),
+            Do(TellTargets),
             Expand(RightSide),
             Do(Own(MakeAugmented(BinaryOperator::Add))),
         ],
     },
     Row {
-        guard: Guard::IsTarget,
+        guard: Guard::IsTargetWith,
         symbols: &[
             Read(THE_MINUS_EQUAL),
+            Do(TellTargets),
             Expand(RightSide),
             Do(Own(MakeAugmented(BinaryOperator::Subtract))),
         ],
     },
     Row {
-        guard: Guard::IsTarget,
+        guard: Guard::IsTargetWith,
         symbols: &[
             Read(THE_STAR_EQUAL),
+            Do(TellTargets),
             Expand(RightSide),
             Do(Own(MakeAugmented(BinaryOperator::Multiply))),
         ],
     },
     Row {
-        guard: Guard::IsTarget,
+        guard: Guard::IsTargetWith,
         symbols: &[
             Read(THE_DOUBLE_SLASH_EQUAL),
+            Do(TellTargets),
             Expand(RightSide),
             Do(Own(MakeAugmented(BinaryOperator::FloorDivide))),
         ],
     },
     Row {
-        guard: Guard::IsTarget,
+        guard: Guard::IsTargetWith,
         symbols: &[
             Read(THE_PERCENT_EQUAL),
+            Do(TellTargets),
             Expand(RightSide),
             Do(Own(MakeAugmented(BinaryOperator::Modulo))),
         ],
     },
     Row {
-        guard: Guard::IsTarget,
+        guard: Guard::IsTargetWith,
         symbols: &[
             Read(THE_DOUBLE_STAR_EQUAL),
+            Do(TellTargets),
             Expand(RightSide),
             Do(Own(MakeAugmented(BinaryOperator::Power))),
         ],
@@ -514,8 +542,73 @@ pub(crate) const ASSIGN_TAIL_ROWS: &[Row] = &[
         symbols: &[Do(Own(MakeAssign))],
     },
     Row {
-        guard: Guard::AreTargets,
-        symbols: &[Read(THE_EQUAL), Do(Own(AddTargets)), Expand(Assigned)],
+        guard: Guard::AreTargetsWith,
+        symbols: &[
+            Read(THE_EQUAL),
+            Do(TellTargets),
+            Do(Own(AddTargets)),
+            Expand(Assigned),
+        ],
+    },
+];
+
+pub(crate) const DELETED_SUBSCRIPT_ROWS: &[Row] = &[
+    Row {
+        guard: Guard::Always,
+        symbols: &[
+            Expand(Profile(Expression)),
+            Expand(Profile(DeletedSubscriptTail)),
+        ],
+    },
+    Row {
+        guard: Guard::Always,
+        symbols: &[
+            Read(THE_COLON),
+            Do(Own(MakeSlice)),
+            Expand(Profile(Upper)),
+            Expand(DeletedSlice),
+        ],
+    },
+];
+
+pub(crate) const DELETED_SUBSCRIPT_TAIL_ROWS: &[Row] = &[
+    Row {
+        guard: Guard::Always,
+        symbols: &[
+            Read(THE_CLOSE_BRACKET),
+            Do(Own(MakeSubscript)),
+            Expand(Profile(DeletedEnd)),
+        ],
+    },
+    Row {
+        guard: Guard::Always,
+        symbols: &[
+            Read(THE_COLON),
+            Do(Own(MakeSliceFrom)),
+            Expand(Profile(Upper)),
+            Expand(DeletedSlice),
+        ],
+    },
+];
+
+pub(crate) const BINDING_ROWS: &[Row] = &[
+    Row {
+        guard: Guard::Always,
+        symbols: &[
+            Expand(Profile(AnyName)),
+            Do(Own(MakeLoopName)),
+            Expand(Profile(BindingTail)),
+        ],
+    },
+    Row {
+        guard: Guard::Always,
+        symbols: &[
+            Read(THE_OPEN_PARENTHESIS),
+            Expand(Profile(Binding)),
+            Read(THE_CLOSE_PARENTHESIS),
+            Do(Own(MakeLoopParenthesis)),
+            Expand(BindingEnd),
+        ],
     },
 ];
 

@@ -35,6 +35,8 @@ pub enum Construct {
     SeveralBases,
     ClassKeyword,
     SliceStep,
+    /// A slice that is assigned to or deleted.
+    SliceTarget,
     LoopElse,
     TryElse,
     Finally,
@@ -59,6 +61,8 @@ pub enum Construct {
     RaiseFrom,
     ExceptTuple,
     DeleteName,
+    /// Brackets as one of several targets.
+    NestedTarget,
     StarredTarget,
     /// `...`
     Ellipsis,
@@ -88,6 +92,7 @@ impl Construct {
             Construct::SeveralBases => "several-bases",
             Construct::ClassKeyword => "class-keyword",
             Construct::SliceStep => "slice-step",
+            Construct::SliceTarget => "slice-target",
             Construct::LoopElse => "loop-else",
             Construct::TryElse => "try-else",
             Construct::Finally => "finally",
@@ -110,6 +115,7 @@ impl Construct {
             Construct::RaiseFrom => "raise-from",
             Construct::ExceptTuple => "except-tuple",
             Construct::DeleteName => "del-name",
+            Construct::NestedTarget => "nested-target",
             Construct::StarredTarget => "starred-target",
             Construct::Ellipsis => "ellipsis",
         }
@@ -137,7 +143,8 @@ impl Construct {
             Construct::ClassAttribute => Some(Construct::SeveralBases),
             Construct::SeveralBases => Some(Construct::ClassKeyword),
             Construct::ClassKeyword => Some(Construct::SliceStep),
-            Construct::SliceStep => Some(Construct::LoopElse),
+            Construct::SliceStep => Some(Construct::SliceTarget),
+            Construct::SliceTarget => Some(Construct::LoopElse),
             Construct::LoopElse => Some(Construct::TryElse),
             Construct::TryElse => Some(Construct::Finally),
             Construct::Finally => Some(Construct::With),
@@ -159,7 +166,8 @@ impl Construct {
             Construct::BareRaise => Some(Construct::RaiseFrom),
             Construct::RaiseFrom => Some(Construct::ExceptTuple),
             Construct::ExceptTuple => Some(Construct::DeleteName),
-            Construct::DeleteName => Some(Construct::StarredTarget),
+            Construct::DeleteName => Some(Construct::NestedTarget),
+            Construct::NestedTarget => Some(Construct::StarredTarget),
             Construct::StarredTarget => Some(Construct::Ellipsis),
             Construct::Ellipsis => None,
         }

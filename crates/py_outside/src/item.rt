@@ -1,10 +1,11 @@
 //! What is kept of parts, and the stack of them.
 
 ghost use Rattle.std.specs.Prelude.{◌≡◌, ◌∷◌, IfOk, OnOk};
-ghost use Rattle.py_constructs.specs.Values.{Token, Expression, leaf as leaf_of, in_round as reading_in_round, in_square as reading_in_square, tuple_of as reading_of_tuple, one_more as reading_of_more, less};
+ghost use Rattle.py_constructs.specs.Values.{Token, Expression, a_slice, leaf as leaf_of, in_round as reading_in_round, in_square as reading_in_square, tuple_of as reading_of_tuple, one_more as reading_of_more, less};
 ghost use Rattle.py_lexer.specs.PlainTokens.{plain_place};
-ghost use Rattle.py_outside.specs.PlainValues.{plain_sort, plain_reading, plain_item, items_of};
+ghost use Rattle.py_outside.specs.PlainValues.{plain_sort, plain_reading, plain_numbered, plain_item, items_of};
 
+use crate::targets::{Targets, among, are_own, together};
 use shed_base::Place;
 use std::alloc::AllocError;
 
@@ -13,6 +14,8 @@ pub(crate) enum TokenSort {
     Name,
     /// A round or a square bracket that opens.
     Open,
+    /// The `for` of a loop.
+    Loop,
     Other,
 }
 
@@ -20,10 +23,10 @@ pub(crate) enum TokenSort {
 #[derive(Clone, Copy, Debug)]
 pub(crate) struct Reading {
     pub(crate) name: bool,
-    /// It may stand alone at the left of an assignment, as a name, an attribute or a subscript.
-    pub(crate) target: bool,
-    /// It may stand there, one target or some.
-    pub(crate) targets: bool,
+    /// What it is as one of several targets.
+    pub(crate) item: Targets,
+    /// What it is as all of them.
+    pub(crate) whole: Targets,
     /// An annotation may come behind it.
     pub(crate) annotable: bool,
     /// All in it are names, in brackets or not.
@@ -53,8 +56,8 @@ pub(crate) enum Item {
 /// A call that begins.
 pub(crate) const CALL: Item = Item::Expression(Reading {
     name: false,
-    target: false,
-    targets: false,
+    item: Targets::No,
+    whole: Targets::No,
     annotable: false,
     names: false,
     fresh: true,
@@ -63,8 +66,8 @@ pub(crate) const CALL: Item = Item::Expression(Reading {
 /// An expression that is no target.
 pub(crate) const PLAIN: Item = Item::Expression(Reading {
     name: false,
-    target: false,
-    targets: false,
+    item: Targets::No,
+    whole: Targets::No,
     annotable: false,
     names: false,
     fresh: false,
@@ -73,8 +76,8 @@ pub(crate) const PLAIN: Item = Item::Expression(Reading {
 /// An attribute or a subscript.
 pub(crate) const TARGET: Item = Item::Expression(Reading {
     name: false,
-    target: true,
-    targets: true,
+    item: Targets::Own,
+    whole: Targets::Own,
     annotable: true,
     names: false,
     fresh: false,
@@ -82,12 +85,26 @@ pub(crate) const TARGET: Item = Item::Expression(Reading {
 
 const NAME: Item = Item::Expression(Reading {
     name: true,
-    target: true,
-    targets: true,
+    item: Targets::Own,
+    whole: Targets::Own,
     annotable: true,
     names: true,
     fresh: false,
 });
+
+/// A slice with this bracket.
+pub(crate) fn slice(bracket: Numbered) -> Item
+    ensures { plain_item result ≡ a_slice (plain_numbered bracket) }
+{
+    Item::Expression(Reading {
+        name: false,
+        item: Targets::Sliced(bracket),
+        whole: Targets::Sliced(bracket),
+        annotable: false,
+        names: false,
+        fresh: false,
+    })
+}
 
 pub(crate) fn leaf(sort: TokenSort) -> Item
     ensures { plain_item result ≡ leaf_of (plain_sort sort) }
@@ -95,31 +112,32 @@ pub(crate) fn leaf(sort: TokenSort) -> Item
     match sort {
         TokenSort::Name => NAME,
         TokenSort::Open => PLAIN,
+        TokenSort::Loop => PLAIN,
         TokenSort::Other => PLAIN,
     }
 }
 
 /// An expression in round brackets: a target keeps that an annotation may come behind it.
-pub(crate) fn in_round(reading: Reading) -> Item
-    ensures { plain_item result ≡ reading_in_round (plain_reading reading) }
+pub(crate) fn in_round(bracket: Numbered, reading: Reading) -> Item
+    ensures { plain_item result ≡ reading_in_round (plain_numbered bracket) (plain_reading reading) }
 {
     Item::Expression(Reading {
         name: false,
-        target: false,
-        targets: reading.targets,
-        annotable: reading.target,
+        item: among(bracket, reading.whole),
+        whole: reading.whole,
+        annotable: are_own(reading.item),
         names: reading.names,
         fresh: false,
     })
 }
 
-pub(crate) fn in_square(reading: Reading) -> Item
-    ensures { plain_item result ≡ reading_in_square (plain_reading reading) }
+pub(crate) fn in_square(bracket: Numbered, reading: Reading) -> Item
+    ensures { plain_item result ≡ reading_in_square (plain_numbered bracket) (plain_reading reading) }
 {
     Item::Expression(Reading {
         name: false,
-        target: false,
-        targets: reading.targets,
+        item: among(bracket, reading.whole),
+        whole: reading.whole,
         annotable: false,
         names: reading.names,
         fresh: false,
@@ -132,8 +150,8 @@ pub(crate) fn tuple_of(reading: Reading) -> Item
 {
     Item::Expression(Reading {
         name: false,
-        target: false,
-        targets: reading.target,
+        item: Targets::No,
+        whole: reading.item,
         annotable: false,
         names: reading.names,
         fresh: false,
@@ -146,8 +164,8 @@ pub(crate) fn one_more(tuple: Reading, item: Reading) -> Item
 {
     Item::Expression(Reading {
         name: false,
-        target: false,
-        targets: tuple.targets && item.target,
+        item: Targets::No,
+        whole: together(tuple.whole, item.item),
         annotable: false,
         names: tuple.names && item.names,
         fresh: false,

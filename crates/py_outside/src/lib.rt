@@ -12,6 +12,7 @@ mod changed_rows;
 pub mod construct;
 pub mod item;
 mod kind_numbers;
+pub mod left;
 mod made;
 mod name_numbers;
 mod place_rows;
@@ -24,6 +25,7 @@ mod statement_rows;
 pub mod symbol;
 pub mod table;
 mod target_rows;
+mod targets;
 pub mod value;
 
 pub use search::find_outside;

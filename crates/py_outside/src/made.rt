@@ -8,7 +8,7 @@ ghost use Rattle.py_outside.specs.PlainValues.{items_of};
 
 use crate::item::{
     CALL, Item, PLAIN, TARGET, forget, in_round, in_square, leaf, one_more, pop, pop_expression,
-    pop_token, put, replace, tuple_of,
+    pop_token, put, replace, slice, tuple_of,
 };
 use py_table::symbol::Action;
 use std::alloc::AllocError;
@@ -25,8 +25,8 @@ fn make_parenthesis(items: &mut Vec<Item>) -> Result<(), AllocError>
 {
     pop(items)?;
     let reading = pop_expression(items)?;
-    pop(items)?;
-    put(items, in_round(reading))
+    let (_, bracket) = pop_token(items)?;
+    put(items, in_round(bracket, reading))
 }
 
 fn make_tuple(items: &mut Vec<Item>) -> Result<(), AllocError>
@@ -52,8 +52,28 @@ fn make_list(items: &mut Vec<Item>) -> Result<(), AllocError>
 {
     pop(items)?;
     let reading = pop_expression(items)?;
+    let (_, bracket) = pop_token(items)?;
+    put(items, in_square(bracket, reading))
+}
+
+/// A slice that has something before its `:`.
+fn make_slice_from(items: &mut Vec<Item>) -> Result<(), AllocError>
+    ensures { OnOk result (items_of items.new.items ≡ made_of build.MakeSliceFrom (items_of items.old.items)) }
+{
     pop(items)?;
-    put(items, in_square(reading))
+    pop(items)?;
+    let (_, bracket) = pop_token(items)?;
+    pop(items)?;
+    put(items, slice(bracket))
+}
+
+fn make_slice(items: &mut Vec<Item>) -> Result<(), AllocError>
+    ensures { OnOk result (items_of items.new.items ≡ made_of build.MakeSlice (items_of items.old.items)) }
+{
+    pop(items)?;
+    let (_, bracket) = pop_token(items)?;
+    pop(items)?;
+    put(items, slice(bracket))
 }
 
 /// Does what an action does. Where items are not of the sort that it takes, which never comes, the answer is want of memory.
@@ -66,8 +86,14 @@ pub(crate) fn make(items: &mut Vec<Item>, action: Action) -> Result<(), AllocErr
         Action::MakeTuple => make_tuple(items),
         Action::AddItem => add_item(items),
         Action::MakeListOfOne | Action::MakeList => make_list(items),
+        Action::MakeSliceFrom => make_slice_from(items),
+        Action::MakeSlice => make_slice(items),
         Action::Drop => {
             forget(items, 1);
+            Ok(())
+        }
+        Action::AddUpper => {
+            forget(items, 2);
             Ok(())
         }
         Action::MakeTrue | Action::MakeFalse | Action::MakeNone => replace(items, 1, PLAIN),
@@ -93,11 +119,9 @@ pub(crate) fn make(items: &mut Vec<Item>, action: Action) -> Result<(), AllocErr
         | Action::BeginDef
         | Action::EndClass
         | Action::BeginFrom => replace(items, 3, Item::Other),
-        Action::BeginDict | Action::AddPair | Action::MakeSliceFrom => replace(items, 4, PLAIN),
+        Action::BeginDict | Action::AddPair => replace(items, 4, PLAIN),
         Action::MakeSetOfOne
         | Action::MakeSet
-        | Action::MakeSlice
-        | Action::AddUpper
         | Action::MakeBinary(_)
         | Action::MakeCompare
         | Action::AddLink

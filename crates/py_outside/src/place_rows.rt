@@ -195,6 +195,16 @@ pub(crate) const DELETED_ROWS: &[Row] = &[Row {
     symbols: &[Expand(Profile(DeletedTail)), Do(Own(MakeDelete))],
 }];
 
+pub(crate) const DELETED_SLICE_ROWS: &[Row] = &[Row {
+    guard: Guard::Always,
+    symbols: &[Expand(Profile(DeletedTail))],
+}];
+
+pub(crate) const BINDING_END_ROWS: &[Row] = &[Row {
+    guard: Guard::Always,
+    symbols: &[],
+}];
+
 pub(crate) const ASSIGNED_ROWS: &[Row] = &[Row {
     guard: Guard::Always,
     symbols: &[Expand(Profile(ExpressionList)), Expand(Profile(AssignTail))],

@@ -2,6 +2,7 @@
 
 ghost use Rattle.std.specs.Prelude.{◌≡◌};
 ghost use Rattle.py_constructs.specs.Table.{rows_of as rows_of_name, rows_between};
+ghost use Rattle.py_constructs.specs.Values.{Widening};
 ghost use Rattle.py_table.specs.PlainSymbols.{plain_nonterminal};
 ghost use Rattle.py_outside.specs.PlainSymbols.{plain_name, plain_rows};
 
@@ -12,7 +13,7 @@ use py_table::symbol::Nonterminal;
 
 /// The rows of one of the profile's nonterminals.
 fn rows_of_nonterminal(nonterminal: Nonterminal) -> Rows
-    ensures { plain_rows result ≡ rows_between (plain_nonterminal nonterminal) }
+    ensures { (w : Widening) → plain_rows w result ≡ rows_between w (plain_nonterminal nonterminal) }
 {
     match nonterminal {
         Nonterminal::Compound => Rows::Own(changed_rows::COMPOUND_ROWS),
@@ -30,6 +31,9 @@ fn rows_of_nonterminal(nonterminal: Nonterminal) -> Rows
         Nonterminal::Small => Rows::Own(changed_rows::SMALL_ROWS),
         Nonterminal::SmallTail => Rows::Own(changed_rows::SMALL_TAIL_ROWS),
         Nonterminal::AssignTail => Rows::Own(changed_rows::ASSIGN_TAIL_ROWS),
+        Nonterminal::DeletedSubscript => Rows::Own(changed_rows::DELETED_SUBSCRIPT_ROWS),
+        Nonterminal::DeletedSubscriptTail => Rows::Own(changed_rows::DELETED_SUBSCRIPT_TAIL_ROWS),
+        Nonterminal::Binding => Rows::Own(changed_rows::BINDING_ROWS),
         Nonterminal::Upper => Rows::Own(changed_rows::UPPER_ROWS),
         Nonterminal::ArgumentTail => Rows::Own(changed_rows::ARGUMENT_TAIL_ROWS),
         Nonterminal::Atom => Rows::Own(changed_rows::ATOM_ROWS),
@@ -66,9 +70,6 @@ fn rows_of_nonterminal(nonterminal: Nonterminal) -> Rows
         | Nonterminal::DeletedTail
         | Nonterminal::DeletedAttribute
         | Nonterminal::DeletedEnd
-        | Nonterminal::DeletedSubscript
-        | Nonterminal::DeletedSubscriptTail
-        | Nonterminal::Binding
         | Nonterminal::BindingTail
         | Nonterminal::BindingMore
         | Nonterminal::BindingNext
@@ -126,7 +127,7 @@ fn rows_of_nonterminal(nonterminal: Nonterminal) -> Rows
 
 /// The rows of a name.
 pub(crate) fn rows_of(name: Name) -> Rows
-    ensures { plain_rows result ≡ rows_of_name (plain_name name) }
+    ensures { (w : Widening) → plain_rows w result ≡ rows_of_name w (plain_name name) }
 {
     match name {
         Name::Profile(nonterminal) => rows_of_nonterminal(nonterminal),
@@ -155,6 +156,8 @@ pub(crate) fn rows_of(name: Name) -> Rows
         Name::RaisedTail => Rows::Own(place_rows::RAISED_TAIL_ROWS),
         Name::Yielded => Rows::Own(place_rows::YIELDED_ROWS),
         Name::Deleted => Rows::Own(place_rows::DELETED_ROWS),
+        Name::DeletedSlice => Rows::Own(place_rows::DELETED_SLICE_ROWS),
+        Name::BindingEnd => Rows::Own(place_rows::BINDING_END_ROWS),
         Name::Assigned => Rows::Own(place_rows::ASSIGNED_ROWS),
         Name::RightSide => Rows::Own(place_rows::RIGHT_SIDE_ROWS),
         Name::UpperEnd => Rows::Own(place_rows::UPPER_END_ROWS),

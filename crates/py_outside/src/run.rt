@@ -3,20 +3,22 @@
 ghost use Rattle.std.specs.Prelude.{ℕ, ◌≡◌, List, [], ◌∷◌, ◌++◌, map, IfOk, OnOk};
 ghost use Rattle.grammars.specs.Grammar.{Tok, Non, allows};
 ghost use Rattle.py_constructs.specs.OneStep.{one_step};
-ghost use Rattle.py_constructs.specs.Table.{Addition, profile_symbol};
+ghost use Rattle.py_constructs.specs.Table.{Addition, widening_of, profile_symbol};
 ghost use Rattle.py_constructs.specs.Values as values;
 ghost use Rattle.py_table.specs.PlainTokens.{plain_tokens};
 ghost use Rattle.py_table.specs.PlainSymbols as profile;
 ghost use Rattle.py_outside.specs.PlainConstructs.{additions_of};
 ghost use Rattle.py_outside.specs.PlainSymbols.{plain_name, plain_symbol, plain_symbols, plain_taken};
-ghost use Rattle.py_outside.specs.PlainValues.{plain_value};
+ghost use Rattle.py_outside.specs.PlainValues.{plain_value, plain_widening};
 ghost use Rattle.py_outside.specs.Steps.{stack_of, Advanced, Became};
 ghost use Rattle.py_outside.specs.declared.symbol.Symbol.{Symbol as SymbolKept};
 ghost use Rattle.py_outside.specs.declared.value.Value.{Value as ValueKept};
 
+use crate::added::widening_by;
 use crate::construct::Construct;
 use crate::symbol::{Action, Name, Symbol, Taken};
 use crate::table::row_at;
+use crate::targets::Widening;
 use crate::value::Value;
 use py_lexer::token::Token;
 use py_table::kinds::{kind_of, sight};
@@ -67,7 +69,7 @@ fn push_own(symbols: &mut Vec<Symbol>, row: &[Symbol]) -> Result<(), AllocError>
 
 /// Puts the symbols of a row on the stack, the first on top.
 fn push_row(symbols: &mut Vec<Symbol>, row: Taken) -> Result<(), AllocError>
-    ensures { OnOk result (stack_of symbols.new.items ≡ (plain_taken row).symbols ++ stack_of symbols.old.items) }
+    ensures { (w : values.Widening) → OnOk result (stack_of symbols.new.items ≡ (plain_taken w row).symbols ++ stack_of symbols.old.items) }
 {
     match row {
         Taken::Profile(row) => push_profile(symbols, row.symbols),
@@ -75,13 +77,23 @@ fn push_row(symbols: &mut Vec<Symbol>, row: Taken) -> Result<(), AllocError>
     }
 }
 
+/// What a construct lets be targets besides the profile's.
+fn widening(construct: Option<Construct>) -> Widening
+    ensures { plain_widening result ≡ widening_of (additions_of construct) }
+{
+    match construct {
+        Some(construct) => widening_by(construct),
+        None => Widening::Nothing,
+    }
+}
+
 /// Whether a row's guard allows it.
-pub(crate) fn allows_row(value: &Value, row: Taken) -> bool
-    ensures { result ≡ allows (plain_taken row).guard (plain_value value.now) }
+pub(crate) fn allows_row(construct: Option<Construct>, value: &Value, row: Taken) -> bool
+    ensures { result ≡ allows (plain_taken (widening_of (additions_of construct)) row).guard (plain_value value.now) }
 {
     match row {
         Taken::Profile(_) => true,
-        Taken::Own(row) => value.allows(row.guard),
+        Taken::Own(row) => value.allows(widening(construct), row.guard),
     }
 }
 
@@ -127,7 +139,7 @@ fn expand<'a>(
     let Some(row) = row_at(construct, name, sight(rest, names)) else {
         return Ok(Advance::Halts);
     };
-    if !allows_row(value, row) {
+    if !allows_row(construct, value, row) {
         return Ok(Advance::Halts);
     }
     push_row(symbols, row)?;

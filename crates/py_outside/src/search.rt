@@ -132,7 +132,7 @@ fn ends_with(construct: Construct, way: &Way<'_>, names: &Names) -> bool
     match way.symbols.split_last() {
         Some((Symbol::Expand(name), _)) => {
             match row_at(Some(construct), *name, sight(way.rest, names)) {
-                Some(row) => !allows_row(&way.value, row),
+                Some(row) => !allows_row(Some(construct), &way.value, row),
                 None => true,
             }
         }

@@ -32,6 +32,8 @@ pub enum Name {
     RaisedTail,
     Yielded,
     Deleted,
+    DeletedSlice,
+    BindingEnd,
     Assigned,
     RightSide,
     UpperEnd,
@@ -114,6 +116,12 @@ pub enum Action {
     Forget,
     /// The last expression is no target.
     Plain,
+    /// The last token tells the head of the targets before it.
+    TellTargets,
+    /// The last token tells that the first bracket of the loop is the head, or one round the loop that may be a target.
+    TellLoop,
+    /// The last slice is the head, if another token comes.
+    HoldSlice,
 }
 
 /// When a row may be taken, by the last items.
@@ -128,6 +136,8 @@ pub enum Guard {
     IsBare,
     IsFirstArgument,
     MayBeTargets,
+    IsTargetWith,
+    AreTargetsWith,
 }
 
 #[derive(Clone, Copy, Debug, PartialEq, Eq)]

@@ -4,9 +4,9 @@ ghost use Rattle.std.specs.Prelude.{◌≡◌, ◌<◌, ◌==◌, ◌&&◌, map,
 ghost use Rattle.std.specs.Option.{option_map, option_copied};
 ghost use Rattle.grammars.specs.Sets.{has};
 ghost use Rattle.grammars.specs.Run.{pick};
-ghost use Rattle.py_constructs.specs.Table.{number_of as number_of_name, grammar_with, sets};
-ghost use Rattle.py_constructs.specs.Values.{Value};
-ghost use Rattle.py_outside.specs.PlainConstructs.{additions_of};
+ghost use Rattle.py_constructs.specs.Table.{number_of as number_of_name, additions, grammar_with, widening_of, sets};
+ghost use Rattle.py_constructs.specs.Values.{Value, Widening};
+ghost use Rattle.py_outside.specs.PlainConstructs.{plain_construct, additions_of};
 ghost use Rattle.py_outside.specs.PlainSymbols.{plain_name, plain_row, plain_taken, plain_rows, plain_added};
 ghost use Rattle.py_outside.specs.Sights.{own_before, row_before, allowed, first_added, spread};
 ghost use Rattle.py_table.specs.Sights.{sight_numbered};
@@ -21,7 +21,7 @@ use sqlite_items::at;
 
 /// The row with this number, if there is one.
 fn taken_at(rows: Rows, number: usize) -> Option<Taken>
-    ensures { option_map plain_taken result ≡ slice_get (plain_rows rows) number }
+    ensures { (w : Widening) → option_map (plain_taken w) result ≡ slice_get (plain_rows w rows) number }
 {
     match rows {
         Rows::Profile(rows) => match at(rows, number) {
@@ -38,7 +38,7 @@ fn taken_at(rows: Rows, number: usize) -> Option<Taken>
 /// The row that takes the place of a name at a sight, of those that stand with no construct added.
 fn own_row(name: Name, sight: u8) -> Option<Taken>
     requires { sight < 96 }
-    ensures { option_map plain_taken result ≡ own_before (plain_name name) (sight_numbered sight) }
+    ensures { (w : Widening) → option_map (plain_taken w) result ≡ own_before w (plain_name name) (sight_numbered sight) }
 {
     match at(row_numbers_of(name), sight as usize) {
         Some(number) => taken_at(rows_of(name), *number as usize),
@@ -48,16 +48,17 @@ fn own_row(name: Name, sight: u8) -> Option<Taken>
 
 /// Whether a row is added to the name with this number, and a sight takes it.
 fn is_added_here(row: &AddedRow, number: u8, sight: u8) -> bool
-    ensures { result ≡ ((plain_added row.now).name == number && has (plain_added row.now).sights (sight_numbered sight)) }
+    ensures { result ≡ ((number_of_name (plain_name row.now.name) == number) && has (map sight_numbered row.now.sights.now) (sight_numbered sight)) }
 {
     number_of(row.name) == number && row.sights.contains(&sight)
 }
 
-/// The first of these rows that is added to a name and that a sight takes.
-fn added_row(added: &'static [AddedRow], name: Name, sight: u8) -> Option<&'static Row>
-    ensures { option_map plain_row (option_copied result) ≡ first_added (number_of_name (plain_name name)) (sight_numbered sight) (map plain_added added.now) }
+/// The first of the rows that a construct adds which is added to this name and that a sight takes.
+fn added_row(construct: Construct, name: Name, sight: u8) -> Option<&'static Row>
+    ensures { option_map (plain_row (widening_of (additions (plain_construct construct)))) (option_copied result) ≡ first_added (number_of_name (plain_name name)) (sight_numbered sight) (spread (additions (plain_construct construct))) }
 {
     let number = number_of(name);
+    let added = rows_added(construct);
     for row in added {
         if is_added_here(row, number, sight) {
             return Some(&row.row);
@@ -68,10 +69,10 @@ fn added_row(added: &'static [AddedRow], name: Name, sight: u8) -> Option<&'stat
 
 /// The row that a construct adds to a name and that a sight takes.
 fn row_added(construct: Option<Construct>, name: Name, sight: u8) -> Option<Taken>
-    ensures { option_map plain_taken result ≡ first_added (number_of_name (plain_name name)) (sight_numbered sight) (spread (additions_of construct)) }
+    ensures { option_map (plain_taken (widening_of (additions_of construct))) result ≡ first_added (number_of_name (plain_name name)) (sight_numbered sight) (spread (additions_of construct)) }
 {
     match construct {
-        Some(construct) => match added_row(rows_added(construct), name, sight) {
+        Some(construct) => match added_row(construct, name, sight) {
             Some(row) => Some(Taken::Own(row)),
             None => None,
         },
@@ -82,7 +83,7 @@ fn row_added(construct: Option<Construct>, name: Name, sight: u8) -> Option<Take
 /// The row that takes the place of a name at a sight.
 fn row_with(construct: Option<Construct>, name: Name, sight: u8) -> Option<Taken>
     requires { sight < 96 }
-    ensures { option_map plain_taken result ≡ row_before (additions_of construct) (plain_name name) (sight_numbered sight) }
+    ensures { option_map (plain_taken (widening_of (additions_of construct))) result ≡ row_before (additions_of construct) (plain_name name) (sight_numbered sight) }
 {
     match own_row(name, sight) {
         Some(row) => Some(row),
@@ -93,8 +94,8 @@ fn row_with(construct: Option<Construct>, name: Name, sight: u8) -> Option<Taken
 /// The row that takes the place of a name at a sight, if its guard allows it.
 pub fn row_at(construct: Option<Construct>, name: Name, sight: u8) -> Option<Taken>
     requires { sight < 96 }
-    ensures row { option_map plain_taken result ≡ row_before (additions_of construct) (plain_name name) (sight_numbered sight) }
-    ensures picked { (v : Value) → pick (grammar_with (additions_of construct)) sets (plain_name name) v (sight_numbered sight) ≡ allowed v (option_map plain_taken result) }
+    ensures row { option_map (plain_taken (widening_of (additions_of construct))) result ≡ row_before (additions_of construct) (plain_name name) (sight_numbered sight) }
+    ensures picked { (v : Value) → pick (grammar_with (additions_of construct)) sets (plain_name name) v (sight_numbered sight) ≡ allowed v (option_map (plain_taken (widening_of (additions_of construct))) result) }
 {
     row_with(construct, name, sight)
 }

@@ -6,14 +6,16 @@ ghost use Rattle.std.specs.Option.{option_map};
 ghost use Rattle.grammars.specs.Grammar.{allows};
 ghost use Rattle.py_syntax.specs.Token.{Token};
 ghost use Rattle.py_syntax.specs.Kinds.{kind_of};
-ghost use Rattle.py_constructs.specs.Values.{begin, sort_of as sort_of_kind, place_of, take_in, act as act_on, told_so as told_as, last_token as last_token_of, is_class_bare as is_bare_of, is_call_fresh as is_fresh_of, are_open as are_open_of, are_open_targets as are_open_targets_of};
+ghost use Rattle.py_constructs.specs.Values.{begin, sort_of as sort_of_kind, place_of, take_in, bracket_with as bracket_after, act as act_on, told_so as told_as, last_token as last_token_of, less, last_part as last_part_of, loop_head as loop_head_of, head_of_last as head_of_last_of, is_class_bare as is_bare_of, is_call_fresh as is_fresh_of, are_open as are_open_of, are_open_targets as are_open_targets_of};
 ghost use Rattle.py_lexer.specs.PlainTokens.{plain_place};
 ghost use Rattle.py_outside.specs.PlainSymbols.{plain_action, plain_guard};
-ghost use Rattle.py_outside.specs.PlainValues.{plain_sort, plain_reading, plain_numbered, plain_told, plain_value, items_of, last_reading as last_reading_of};
+ghost use Rattle.py_outside.specs.PlainValues.{plain_sort, plain_reading, plain_numbered, plain_targets, plain_widening, plain_told, plain_value, items_of, last_reading as last_reading_of};
 
 use crate::item::{Item, Numbered, PLAIN, Reading, TokenSort, forget, put, replace};
+use crate::left::{Left, mark_of};
 use crate::made::make;
 use crate::symbol::{Action, Guard};
+use crate::targets::{Targets, Widening, are_own, are_wide, head_in, is_wide, part_in};
 use shed_base::Place;
 use std::alloc::{AllocError, Global};
 
@@ -33,6 +35,9 @@ pub struct Value {
     pub(crate) told: Option<Told>,
     /// A head, if another token comes.
     pub(crate) held: Option<Numbered>,
+    /// The first bracket that was opened behind the last `for`.
+    pub(crate) bracket: Option<Numbered>,
+    pub(crate) left: Left,
     /// The last on top.
     pub(crate) items: Vec<Item>,
 }
@@ -44,9 +49,25 @@ fn sort_of(kind: u8) -> TokenSort
     match kind {
         0 => TokenSort::Name,
         1 => TokenSort::Name,
+        28 => TokenSort::Loop,
         81 => TokenSort::Open,
         83 => TokenSort::Open,
         _ => TokenSort::Other,
+    }
+}
+
+/// The first bracket behind the last `for`, once such a token is read.
+fn bracket_with(sort: TokenSort, token: Numbered, bracket: Option<Numbered>) -> Option<Numbered>
+    ensures { option_map plain_numbered result ≡ bracket_after (plain_sort sort) (plain_numbered token) (option_map plain_numbered bracket) }
+{
+    match sort {
+        TokenSort::Loop => None,
+        TokenSort::Open => match bracket {
+            Some(bracket) => Some(bracket),
+            None => Some(token),
+        },
+        TokenSort::Name => bracket,
+        TokenSort::Other => bracket,
     }
 }
 
@@ -94,12 +115,57 @@ fn last_reading(items: &[Item]) -> Reading
 
 const NOTHING: Reading = Reading {
     name: false,
-    target: false,
-    targets: false,
+    item: Targets::No,
+    whole: Targets::No,
     annotable: false,
     names: false,
     fresh: false,
 };
+
+/// What the profile does not have of the last expression's targets.
+#[tactic(auto, using(crate::proofs::Items::stacks))]
+fn head_of_last(items: &[Item]) -> Option<Numbered>
+    ensures { option_map plain_numbered result ≡ head_of_last_of (items_of items.now) }
+{
+    match items.split_last() {
+        Some((Item::Expression(reading), _)) => head_in(reading.whole),
+        Some(_) => None,
+        None => None,
+    }
+}
+
+/// What was read last at the left of an assignment.
+#[tactic(auto, using(crate::proofs::Items::stacks))]
+fn last_part(items: &[Item]) -> Targets
+    ensures { plain_targets result ≡ last_part_of (items_of items.now) }
+{
+    match items.split_last() {
+        Some((Item::Expression(reading), _)) => part_in(reading.item, reading.whole),
+        Some(_) => Targets::No,
+        None => Targets::No,
+    }
+}
+
+/// The head in a loop: one round it, or its first bracket.
+fn loop_head(head: Option<Numbered>, bracket: Option<Numbered>) -> Option<Numbered>
+    ensures { option_map plain_numbered result ≡ loop_head_of (option_map plain_numbered head) (option_map plain_numbered bracket) }
+{
+    match head {
+        Some(head) => Some(head),
+        None => bracket,
+    }
+}
+
+/// The same of the last item but one.
+#[tactic(auto, using(crate::proofs::Items::stacks))]
+fn head_before_last(items: &[Item]) -> Option<Numbered>
+    ensures { option_map plain_numbered result ≡ head_of_last_of (less 1 (items_of items.now)) }
+{
+    match items.split_last() {
+        Some((_, earlier)) => head_of_last(earlier),
+        None => None,
+    }
+}
 
 #[tactic(auto, using(crate::proofs::Items::stacks))]
 fn is_class_bare(items: &[Item]) -> bool
@@ -134,6 +200,7 @@ fn are_open(items: &[Item]) -> bool
         match last {
             Item::Token(TokenSort::Open, _) => {}
             Item::Token(TokenSort::Name, _) => return false,
+            Item::Token(TokenSort::Loop, _) => return false,
             Item::Token(TokenSort::Other, _) => return false,
             Item::Expression(_) => return false,
             Item::Class(_) => return false,
@@ -150,7 +217,7 @@ fn are_open_targets(items: &[Item]) -> bool
     ensures { result ≡ are_open_targets_of (items_of items.now) }
 {
     match items.split_last() {
-        Some((Item::Expression(reading), earlier)) => reading.targets && are_open(earlier),
+        Some((Item::Expression(reading), earlier)) => are_own(reading.whole) && are_open(earlier),
         Some(_) => are_open(items),
         None => false,
     }
@@ -166,6 +233,8 @@ impl Value {
             read: 0,
             told: None,
             held: None,
+            bracket: None,
+            left: Left::new(alloc),
             items: Vec::new(alloc),
         }
     }
@@ -181,6 +250,8 @@ impl Value {
             read: self.read,
             told: self.told,
             held: self.held,
+            bracket: self.bracket,
+            left: self.left.copied(alloc)?,
             items: Vec::from_slice(alloc, &self.items)?,
         })
     }
@@ -205,9 +276,13 @@ impl Value {
             number: self.read,
             place,
         };
-        put(&mut self.items, Item::Token(sort_of(kind), token))?;
+        let sort = sort_of(kind);
+        self.left
+            .read(mark_of(kind), last_part(&self.items), token)?;
+        put(&mut self.items, Item::Token(sort, token))?;
         self.told = told_so(self.told, self.held, read);
         self.held = None;
+        self.bracket = bracket_with(sort, token, self.bracket);
         self.read = read;
         Ok(())
     }
@@ -233,18 +308,36 @@ impl Value {
                 Ok(())
             }
             Action::Plain => replace(&mut self.items, 1, PLAIN),
+            Action::TellTargets => {
+                self.told = told_so(self.told, head_before_last(&self.items), self.read);
+                Ok(())
+            }
+            Action::TellLoop => {
+                self.told = told_so(
+                    self.told,
+                    loop_head(self.left.here.head, self.bracket),
+                    self.read,
+                );
+                Ok(())
+            }
+            Action::HoldSlice => {
+                self.held = head_of_last(&self.items);
+                Ok(())
+            }
         }
     }
 
-    /// Whether a guard allows its row.
-    pub(crate) fn allows(&self, guard: Guard) -> bool
-        ensures { result ≡ allows (plain_guard guard) (plain_value self.now) }
+    /// Whether a guard allows its row, where a construct lets more be targets.
+    pub(crate) fn allows(&self, widening: Widening, guard: Guard) -> bool
+        ensures { result ≡ allows (plain_guard (plain_widening widening) guard) (plain_value self.now) }
     {
         match guard {
             Guard::Always => true,
             Guard::IsName => last_reading(&self.items).name,
-            Guard::IsTarget => last_reading(&self.items).target,
-            Guard::AreTargets => last_reading(&self.items).targets,
+            Guard::IsTarget => are_own(last_reading(&self.items).item),
+            Guard::AreTargets => are_own(last_reading(&self.items).whole),
+            Guard::IsTargetWith => is_wide(widening, last_reading(&self.items).item),
+            Guard::AreTargetsWith => are_wide(widening, last_reading(&self.items).whole),
             Guard::IsAnnotable => last_reading(&self.items).annotable,
             Guard::IsDeleted => last_reading(&self.items).names,
             Guard::IsBare => is_class_bare(&self.items),

@@ -90,6 +90,18 @@ a_slice_step : IsOutside (tokens (codes "x[1:2:3]\n")) (at 1 6) c.SliceStep
 unfolding lib.Utf8.encode digits
 a_slice_step = stands 5 5 (codes "x[1:2:3]\n") (at 1 6) c.SliceStep (longest_front 400 5 (codes "x[1:2:3]\n") refl) refl
 
+a_slice_target : IsOutside (tokens (codes "x[1:2] = y\n")) (at 1 2) c.SliceTarget
+unfolding lib.Utf8.encode digits
+a_slice_target = stands 6 1 (codes "x[1:2] = y\n") (at 1 2) c.SliceTarget (longest_front 400 6 (codes "x[1:2] = y\n") refl) refl
+
+a_slice_among_targets : IsOutside (tokens (codes "x, y[:] = z\n")) (at 1 5) c.SliceTarget
+unfolding lib.Utf8.encode digits
+a_slice_among_targets = stands 6 3 (codes "x, y[:] = z\n") (at 1 5) c.SliceTarget (longest_front 400 6 (codes "x, y[:] = z\n") refl) refl
+
+a_slice_deleted : IsOutside (tokens (codes "del x[1:2]\n")) (at 1 6) c.SliceTarget
+unfolding lib.Utf8.encode digits
+a_slice_deleted = stands 7 2 (codes "del x[1:2]\n") (at 1 6) c.SliceTarget (longest_front 400 7 (codes "del x[1:2]\n") refl) refl
+
 a_loop_else : IsOutside (tokens (codes "while x: pass\nelse: pass\n")) (at 2 1) c.LoopElse
 unfolding lib.Utf8.encode digits
 a_loop_else = stands 5 5 (codes "while x: pass\nelse: pass\n") (at 2 1) c.LoopElse (longest_front 400 5 (codes "while x: pass\nelse: pass\n") refl) refl
@@ -173,6 +185,18 @@ a_except_tuple = stands 5 5 (codes "try: pass\nexcept (A, B): pass\n") (at 2 8) 
 a_del_name : IsOutside (tokens (codes "del x, y\n")) (at 1 1) c.DeleteName
 unfolding lib.Utf8.encode digits
 a_del_name = stands 2 0 (codes "del x, y\n") (at 1 1) c.DeleteName (longest_front 400 2 (codes "del x, y\n") refl) refl
+
+a_nested_target : IsOutside (tokens (codes "(x, (y, z)) = a\n")) (at 1 5) c.NestedTarget
+unfolding lib.Utf8.encode digits
+a_nested_target = stands 9 3 (codes "(x, (y, z)) = a\n") (at 1 5) c.NestedTarget (longest_front 400 9 (codes "(x, (y, z)) = a\n") refl) refl
+
+a_bracket_before_targets : IsOutside (tokens (codes "(x, y), z = a\n")) (at 1 1) c.NestedTarget
+unfolding lib.Utf8.encode digits
+a_bracket_before_targets = stands 7 0 (codes "(x, y), z = a\n") (at 1 1) c.NestedTarget (longest_front 400 7 (codes "(x, y), z = a\n") refl) refl
+
+a_bracket_in_a_loop : IsOutside (tokens (codes "for (x, (y, z)) in a: pass\n")) (at 1 5) c.NestedTarget
+unfolding lib.Utf8.encode digits
+a_bracket_in_a_loop = stands 4 1 (codes "for (x, (y, z)) in a: pass\n") (at 1 5) c.NestedTarget (longest_front 400 4 (codes "for (x, (y, z)) in a: pass\n") refl) refl
 
 a_starred_target : IsOutside (tokens (codes "*a, b = x\n")) (at 1 1) c.StarredTarget
 unfolding lib.Utf8.encode digits

@@ -315,6 +315,116 @@ const SIMPLE: [(&str, &str); 64] = [
     ("del (f(), a)\n", "1:13 NEWLINE"),
 ];
 
+// Slices that are assigned to or deleted.
+const SLICES: [(&str, &str); 25] = [
+    ("x[1:2] = y\n", "1:2 outside slice-target"),
+    ("x[:] = y = z\n", "1:2 outside slice-target"),
+    ("x = y[1:2] = z\n", "1:6 outside slice-target"),
+    ("a, b[1:] = x\n", "1:5 outside slice-target"),
+    ("(a[1:2]) = x\n", "1:3 outside slice-target"),
+    ("[a[:2], b[c:]] = x\n", "1:3 outside slice-target"),
+    ("a.b[c][1:2] = x\n", "1:7 outside slice-target"),
+    ("f(a[1:2])[3:4] = x\n", "1:10 outside slice-target"),
+    ("a[1:2] += 1\n", "1:2 outside slice-target"),
+    ("a[b[1:2]:] **= 1\n", "1:2 outside slice-target"),
+    ("del a[1:2]\n", "1:6 outside slice-target"),
+    ("if x: del a.b[:]; c\n", "1:14 outside slice-target"),
+    ("del a[1:2][3:4]\n", "1:11 outside slice-target"),
+    ("(a[1:2]) += 1\n", "1:10 +="),
+    ("a[1:2], b += 1\n", "1:11 +="),
+    ("del a[1:2], b\n", "1:11 ,"),
+    ("del (a[1:2])\n", "1:13 NEWLINE"),
+    ("del a[1:2].b\n", "1:13 NEWLINE"),
+    ("a[1:2] + b = c\n", "1:12 ="),
+    ("a[1:2](b) = c\n", "1:11 ="),
+    ("f(a[1:2], b) = c\n", "1:14 ="),
+    ("a[1:2], (b, c) = d\n", "1:16 ="),
+    ("(a[1:2]), b = c\n", "1:13 ="),
+    ("{a[1:2]} = b\n", "1:10 ="),
+    ("for a[1:2] in b: pass\n", "1:6 ["),
+];
+
+// Brackets as one of several targets. Behind `for` a comma may yet come after the first, and the brackets round may be targets.
+const BRACKETS: [(&str, &str); 41] = [
+    ("(a, (b, c)) = x\n", "1:5 outside nested-target"),
+    ("(a, b), c = x\n", "1:1 outside nested-target"),
+    ("((a, b), c), d = x\n", "1:1 outside nested-target"),
+    ("((a, b), c) = x\n", "1:2 outside nested-target"),
+    ("[a, [b, [c]]] = x\n", "1:5 outside nested-target"),
+    ("x = a, [b] = y\n", "1:8 outside nested-target"),
+    ("(a), b = x\n", "1:1 outside nested-target"),
+    ("(a.b, c[0]), [d] = x\n", "1:1 outside nested-target"),
+    ("[(a, b),] = x\n", "1:2 outside nested-target"),
+    ("for (a, (b, c)) in x: pass\n", "1:5 outside nested-target"),
+    ("for (a, b), c in x: pass\n", "1:5 outside nested-target"),
+    ("for a, (b, c) in x: pass\n", "1:8 outside nested-target"),
+    (
+        "for a, b, [c, d] in x: pass\n",
+        "1:11 outside nested-target",
+    ),
+    ("for [a, b] in x: pass\n", "1:5 outside nested-target"),
+    ("for ((a, b), c) in x: pass\n", "1:5 outside nested-target"),
+    ("for ([a], b) in x: pass\n", "1:5 outside nested-target"),
+    ("x = [y for (a, b), c in z]\n", "1:12 outside nested-target"),
+    ("x = [y for a, (b, c) in z]\n", "1:15 outside nested-target"),
+    (
+        "x = [y for a in b for (c, [d]) in z]\n",
+        "1:23 outside nested-target",
+    ),
+    ("x = (a, (b, c))\n", "module"),
+    ("(a), += 1\n", "1:6 +="),
+    ("(a, b) += 1\n", "1:8 +="),
+    ("(a, 1), b = x\n", "1:11 ="),
+    ("(a, ()) = x\n", "1:9 ="),
+    ("(a + b), c = x\n", "1:12 ="),
+    ("f(a), (b, c) = x\n", "1:14 ="),
+    ("{a, b}, c = x\n", "1:11 ="),
+    ("for (a, 1) in x: pass\n", "1:9 1"),
+    ("for a, (b.c) in x: pass\n", "1:8 outside nested-target"),
+    ("for (a) in (b, c): pass\n", "module"),
+    ("del (a, b), [c]\n", "1:1 outside del-name"),
+    (
+        "x = [[a for b, (c, d) in e] for f in g]\n",
+        "1:5 outside nested-target",
+    ),
+    (
+        "x = [(1 + [a for [b, c] in d]).e]\n",
+        "1:5 outside nested-target",
+    ),
+    (
+        "x = y, [[a for (b, c), d in e]]\n",
+        "1:8 outside nested-target",
+    ),
+    (
+        "x = (a, b), [c for d, (e, f) in g]\n",
+        "1:5 outside nested-target",
+    ),
+    (
+        "x = [y + [a for b, (c, d) in e]]\n",
+        "1:20 outside nested-target",
+    ),
+    (
+        "x = f([[a for b, (c, d) in e]])\n",
+        "1:18 outside nested-target",
+    ),
+    (
+        "x = [1, [a for b, (c, d) in e]]\n",
+        "1:19 outside nested-target",
+    ),
+    (
+        "x = -[[a for b, (c, d) in e]]\n",
+        "1:17 outside nested-target",
+    ),
+    (
+        "x = {a: [[b for c, (d, e) in f]]}\n",
+        "1:20 outside nested-target",
+    ),
+    (
+        "return [[a for b, (c, d) in e]]\n",
+        "1:19 outside nested-target",
+    ),
+];
+
 // Two constructs in one module, in both orders.
 const TOGETHER: [(&str, &str); 18] = [
     ("x = lambda: 1.5\n", "1:5 outside lambda"),
@@ -379,6 +489,18 @@ fn blocks_outside_the_profile_are_told(rt: HostRuntime) -> Result<(), Fail> {
 #[test]
 fn simple_statements_outside_the_profile_are_told(rt: HostRuntime) -> Result<(), Fail> {
     assert_eq!(rt; differences(rt.alloc(), &SIMPLE)?.as_str(), "");
+    Ok(())
+}
+
+#[test]
+fn slices_as_targets_are_told(rt: HostRuntime) -> Result<(), Fail> {
+    assert_eq!(rt; differences(rt.alloc(), &SLICES)?.as_str(), "");
+    Ok(())
+}
+
+#[test]
+fn brackets_among_targets_are_told(rt: HostRuntime) -> Result<(), Fail> {
+    assert_eq!(rt; differences(rt.alloc(), &BRACKETS)?.as_str(), "");
     Ok(())
 }
 

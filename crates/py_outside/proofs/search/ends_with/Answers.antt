@@ -1,7 +1,7 @@
 use Rattle.std.proofs.Common.{◌≡◌, [], inl, sym, ap, ◌∙◌}
 use Rattle.std.specs.Option.{option_map}
 use Rattle.grammars.proofs.Bools.{not_false}
-use Rattle.py_constructs.specs.Table.{additions}
+use Rattle.py_constructs.specs.Table.{additions, widening_of}
 use Rattle.py_table.specs.PlainTokens.{plain_tokens}
 use Rattle.py_table.specs.Sights.{sight_numbered}
 use Rattle.py_outside.specs.PlainConstructs.{plain_construct}
@@ -18,13 +18,13 @@ pub returns-in-Some : goal.returns-in-Some
 returns-in-Some c = λ e h.
     ended_there (additions (plain_construct c.args.construct)) _ _ (plain_value c.args.way.now.value) (plain_tokens c.args.names.now c.args.way.now.rest.now) (top_of _ _ c.in-Some-Expand-default.field-0-1.now c.in-Some-Expand-default.field-0-0.now _ c.deref.ensures.value c.in-Some-Expand-default.ensures.cases.0 c.in-Some-Expand-default.field-0-0-is)
     (inl (no_row (additions (plain_construct c.args.construct)) (plain_name c.in-Some-Expand-default.name) _ (plain_value c.args.way.now.value) (plain_tokens c.args.names.now c.args.way.now.rest.now) (sight_numbered c.sight.result) _ (at_sight (additions (plain_construct c.args.construct)) (plain_tokens c.args.names.now c.args.way.now.rest.now) c.sight.result c.sight.ensures.number) (c.row_at.ensures.picked (plain_value c.args.way.now.value))
-    (ap (λ o. allowed (plain_value c.args.way.now.value) (option_map plain_taken o)) c.in-Some.is ∙ forbidden (plain_value c.args.way.now.value) (plain_taken c.in-Some.row) (sym (not_false c.allows_row.result e) ∙ c.allows_row.ensures))))
+    (ap (λ o. allowed (plain_value c.args.way.now.value) (option_map (plain_taken (widening_of (additions (plain_construct c.args.construct)))) o)) c.in-Some.is ∙ forbidden (plain_value c.args.way.now.value) (plain_taken (widening_of (additions (plain_construct c.args.construct))) c.in-Some.row) (sym (not_false c.allows_row.result e) ∙ c.allows_row.ensures))))
 
 pub returns-in-None-row_at : goal.returns-in-None-row_at
 returns-in-None-row_at c = λ e h.
     ended_there (additions (plain_construct c.args.construct)) _ _ (plain_value c.args.way.now.value) (plain_tokens c.args.names.now c.args.way.now.rest.now) (top_of _ _ c.in-Some-Expand-default.field-0-1.now c.in-Some-Expand-default.field-0-0.now _ c.deref.ensures.value c.in-Some-Expand-default.ensures.cases.0 c.in-Some-Expand-default.field-0-0-is)
     (inl (no_row (additions (plain_construct c.args.construct)) (plain_name c.in-Some-Expand-default.name) _ (plain_value c.args.way.now.value) (plain_tokens c.args.names.now c.args.way.now.rest.now) (sight_numbered c.sight.result) _ (at_sight (additions (plain_construct c.args.construct)) (plain_tokens c.args.names.now c.args.way.now.rest.now) c.sight.result c.sight.ensures.number) (c.row_at.ensures.picked (plain_value c.args.way.now.value))
-    (ap (λ o. allowed (plain_value c.args.way.now.value) (option_map plain_taken o)) c.in-None-row_at.is)))
+    (ap (λ o. allowed (plain_value c.args.way.now.value) (option_map (plain_taken (widening_of (additions (plain_construct c.args.construct)))) o)) c.in-None-row_at.is)))
 
 pub returns-in-Some-Read-default : goal.returns-in-Some-Read-default
 returns-in-Some-Read-default c = λ e h.

@@ -1,5 +1,4 @@
 use Rattle.std.proofs.Common.{sym, subst}
-use Rattle.std.specs.Option.{option_map}
 use Rattle.py_constructs.specs.Values.{Numbered}
 use Rattle.std.proofs.Common.{Option}
 use Rattle.py_constructs.specs.Reached.{IsHead}

@@ -1,6 +1,5 @@
 use Rattle.std.proofs.Common.{sym, ap, ◌∙◌}
 use Rattle.std.specs.Option.{option_map}
-use Rattle.py_table.specs.PlainTokens.{plain_tokens}
 use Rattle.py_outside.specs.PlainConstructs.{plain_construct}
 use Rattle.py_outside.specs.PlainValues.{plain_numbered, plain_value}
 use Rattle.py_outside.proofs.Ways.{told_early, step_further, none_halted, none_finished}
