@@ -1,25 +1,22 @@
 -- The run behind a front, step by step.
-use Rattle.std.proofs.Common.{◌≡◌, ℕ, zero, suc, ◌+◌, Bool, true, false, not, cond, ◌==◌, if◌then◌else◌, List, [], ◌∷◌, ◌++◌, length, take, ◌-◌, Option, Some, None, refl, sym, ap, ◌∙◌, subst, arith, eqb-true}
-use Rattle.grammars.specs.Grammar.{Tok, Non, Do, allows, Row, Sight, sight}
-use Rattle.grammars.specs.Run.{Outcome, Done, Stuck, pick, run}
+use Rattle.std.proofs.Common.{◌≡◌, ℕ, suc, ◌+◌, Bool, true, false, not, ◌==◌, if◌then◌else◌, List, [], ◌∷◌, ◌++◌, Option, Some, None, refl, sym, ap, ◌∙◌, subst, arith, eqb-true}
+use Rattle.grammars.specs.Grammar.{Tok, Non, Do, Row, Sight, sight}
+use Rattle.grammars.specs.Run.{Done, Stuck, pick, run}
 use Rattle.grammars.proofs.Rows.{pick_is_row}
 use Rattle.py_syntax.specs.Token.{Token}
 use Rattle.py_syntax.specs.Kinds.{kind_of}
 use Rattle.py_syntax.specs.Tree.{Body}
-use Rattle.py_syntax.specs.Build.{PToken, Parts, Action, act}
+use Rattle.py_syntax.specs.Build.{PToken, Parts, Action}
 use Rattle.py_syntax.specs.Grammar.{IsModule}
 use Rattle.py_syntax.specs.Table.{Symbol, Nonterminal, table, sets}
 use Rattle.py_syntax.specs.Laws.{goal, start, finished}
 use Rattle.py_syntax.proofs.TableLaws.{tree_is_reached}
-use Rattle.py_fronts.specs.AtFront.{AtFront}
 use Rattle.py_fronts.proofs.FrontsReached.{longer}
 use Rattle.py_nesting.specs.Outlines.{built}
-use Rattle.py_nesting.specs.Shapes as shapes
-use Rattle.py_nesting.specs.Shapes.{outlines_of}
 use Rattle.py_demands.specs.Behind.{Behind}
 use Rattle.py_demands.proofs.Steps.{behind_at_beginning, behind_action, behind_token, behind_row}
 use Rattle.py_table.specs.Sights.{sight_numbered, number_of_sight, row_before, allowed}
-use Rattle.py_table.specs.Steps.{stack_of, Step, Going, Finished, Halted, expanded, one_step, Became}
+use Rattle.py_table.specs.Steps.{stack_of, Step, Going, Finished, Halted, expanded, one_step}
 use Rattle.py_table.specs.declared.symbol.Symbol.{Symbol as SymbolKept}
 use Rattle.py_table.specs.declared.symbol.Symbol.TheVariants as symbol
 use Rattle.py_table.specs.declared.symbol.Nonterminal.TheVariants as nonterminal
@@ -29,8 +26,6 @@ use Rattle.py_table.proofs.SymbolStacks.{started}
 use Rattle.py_table.proofs.Turns.{after, sight_of_number, step_runs}
 use Rattle.py_depth.specs.PlainEntries.{entries_of, events_of}
 use Rattle.py_depth.specs.declared.nest.Nest.{Nest}
-use Rattle.py_depth.specs.declared.shape.Entry.{Entry}
-use Rattle.py_depth.specs.declared.event.Event as code
 use Rattle.py_front_depth.specs.Reaching.{acts_first, is_done, StandsFor, StandsHere}
 
 -- at the beginning nothing stands for nothing

@@ -1,6 +1,6 @@
 -- Where the code's run stands behind a front.
-use Rattle.std.specs.Prelude.{◌≡◌, ℕ, Bool, true, false, not, List, [], ◌∷◌, ◌++◌, Option, Some, None}
-use Rattle.grammars.specs.Grammar.{Tok, Non, Do}
+use Rattle.std.specs.Prelude.{◌≡◌, Bool, true, false, not, List, [], ◌∷◌, ◌++◌, Option, Some, None}
+use Rattle.grammars.specs.Grammar.{Do}
 use Rattle.py_syntax.specs.Token.{Token}
 use Rattle.py_syntax.specs.Tree.{Body}
 use Rattle.py_syntax.specs.Build.{Parts}

@@ -1,4 +1,4 @@
-use Rattle.py_front_depth.proofs.Entries.{IsAsked, none_asked, one_asked, none_more, all_asked}
+use Rattle.py_front_depth.proofs.Entries.{none_asked, one_asked, none_more}
 use Rattle.py_front_depth.proofs.nodes.asked_of_outlines.Goals.{then-is_outlined+in_ok-push, else-is_outlined}
 use Rattle.py_front_depth.proofs.nodes.asked_of_outlines.Goals as goal
 

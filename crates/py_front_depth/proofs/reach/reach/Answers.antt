@@ -1,8 +1,8 @@
-use Rattle.std.proofs.Common.{◌≡◌, false, sym, ap, ◌∙◌}
+use Rattle.std.proofs.Common.{sym, ap, ◌∙◌}
 use Rattle.py_table.specs.PlainTokens.{plain_tokens}
 use Rattle.py_table.specs.Steps.{stack_of}
 use Rattle.py_front_depth.specs.Reaching.{is_done}
-use Rattle.py_front_depth.proofs.Standing.{at_start, further, stuck_so, done_so, arrived}
+use Rattle.py_front_depth.proofs.Standing.{at_start, further, stuck_so, done_so}
 use Rattle.py_front_depth.proofs.reach.reach.Goals as goal
 
 pub loop-turn-init : goal.loop-turn-init

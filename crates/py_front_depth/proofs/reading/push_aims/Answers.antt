@@ -1,6 +1,5 @@
-use Rattle.std.proofs.Common.{◌≡◌, ◌||◌, Bool, false, List, ◌∷◌, refl, ap, ◌∙◌, sym}
+use Rattle.std.proofs.Common.{refl, ap, ◌∙◌}
 use Rattle.py_demands.specs.Aims as aims
-use Rattle.py_demands.specs.Readings.{has_never}
 use Rattle.py_front_depth.specs.PlainAsks.{plain_aim, aims_of}
 use Rattle.py_front_depth.specs.PlainRoles.{plain_role}
 use Rattle.py_front_depth.proofs.Stacks.{aims_of-push, one_before, one_may_be_never}
