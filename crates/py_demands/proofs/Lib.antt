@@ -26,3 +26,6 @@ mod Paired
 mod TurnedPaired
 mod DemandVectors
 mod TargetVectors
+mod FewOpen
+mod ReadySteps
+mod ReadingsLow

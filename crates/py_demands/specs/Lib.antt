@@ -17,3 +17,5 @@ pub mod FrontDepth
 pub mod Paired
 pub mod ItemSteps
 pub mod TurnedPaired
+pub mod Ready
+pub mod Readings

@@ -14,6 +14,8 @@ ghost use Rattle.py_demands.specs.Decided.{EitherLaw, WholeLaw, BothLaw};
 ghost use Rattle.py_demands.specs.FrontDepth.{FirstLaw};
 ghost use Rattle.py_demands.specs.ItemSteps.{ItemStepsLaw};
 ghost use Rattle.py_demands.specs.Paired.{PairedLaw, SteadyLaw, AgreementLaw};
+ghost use Rattle.py_demands.specs.Readings.{ReadingLaw};
+ghost use Rattle.py_demands.specs.Ready.{ReadyLaw};
 ghost use Rattle.py_demands.specs.Steps.{StepsLaw};
 ghost use Rattle.py_demands.specs.TurnedPaired.{TurnedPairedLaw, BothPairsLaw};
 ghost use Rattle.py_demands.specs.Turned.{TurnedLaw};
@@ -116,4 +118,16 @@ pub fn a_target_has_the_same_nodes()
 /// has more than 100 others above it stands at the first place where the front is nested too deep.
 pub fn the_first_node_too_deep_is_met()
     ensures law { FirstLaw }
+{}
+
+/// From the beginning, each step of the table's run over a front keeps the symbols so that one expression at most may be assigned to, and one item
+/// at most is read of it.
+pub fn a_run_reads_one_expression_that_may_be_assigned_to()
+    ensures law { ReadyLaw }
+{}
+
+/// In each module that begins with a front, a node stands no less deep than in one of the two readings: the one that closes the symbols, and the one
+/// that assigns to what may be targets.
+pub fn a_module_stands_no_less_deep_than_a_reading()
+    ensures law { ReadingLaw }
 {}
