@@ -29,3 +29,5 @@ mod TargetVectors
 mod FewOpen
 mod ReadySteps
 mod ReadingsLow
+mod Passing
+mod TargetsLeft
