@@ -192,7 +192,7 @@ few_passed (l ∷ ls) q qs h k n = go (least_passes l) refl k (λ m. few_passed 
         ap (λ (b : Bool). if b then none_open (map (ask_least q) ls ++ qs) else few_open (map (ask_least q) ls ++ qs)) (least_stops l q (and_left (least_turns_not l) (none_turn ls) h) e)
         ∙ again k
 
-few_behind : (ls : List Least) (q : Ask) (qs : List Ask) → none_turn ls ≡ true → few_pass ls ≡ true → few_open (q ∷ qs) ≡ true → few_open (map (ask_least q) ls ++ qs) ≡ true
+pub few_behind : (ls : List Least) (q : Ask) (qs : List Ask) → none_turn ls ≡ true → few_pass ls ≡ true → few_open (q ∷ qs) ≡ true → few_open (map (ask_least q) ls ++ qs) ≡ true
 few_behind ls q qs h k n = go (is_open q) refl n
   where
     go : (b : Bool) → is_open q ≡ b → (if b then none_open qs else few_open qs) ≡ true → few_open (map (ask_least q) ls ++ qs) ≡ true
@@ -230,7 +230,7 @@ calm_makes_none MakeTargets h = absurd (cc)
 calm_makes_none AddTargets h = absurd (cc)
 calm_makes_none a h = refl
 
-symbol_none : (s : Symbol) (qs asks : List Ask) → are_quiet (s ∷ []) ≡ true → are_calm (s ∷ []) ≡ true → before_symbol s qs ≡ Some asks → none_open qs ≡ true → none_open asks ≡ true
+pub symbol_none : (s : Symbol) (qs asks : List Ask) → are_quiet (s ∷ []) ≡ true → are_calm (s ∷ []) ≡ true → before_symbol s qs ≡ Some asks → none_open qs ≡ true → none_open asks ≡ true
 symbol_none (Tok k) [] asks h c e n = absurd (cc)
 symbol_none (Tok k) (q ∷ qs) asks h c e n = subst (λ (l : List Ask). none_open l ≡ true) (same_Some qs asks e) (none_rest q qs n).1
 symbol_none (Do a) qs asks h c e n =

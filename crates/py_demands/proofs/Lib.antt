@@ -31,3 +31,4 @@ mod ReadySteps
 mod ReadingsLow
 mod Passing
 mod TargetsLeft
+mod ReadSettled

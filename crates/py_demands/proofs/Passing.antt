@@ -182,7 +182,7 @@ passed AddImported es new events k h = passed_add_imported es new events h
 passed AddImportedAs es new events k h = passed_add_imported_as es new events h
 passed a es new events k h = none_passing (roles a) es (targets_last new) refl
 
-last_only : (e : Entry) (es : List Entry) → targets_last (e ∷ es) ≡ targets_last (e ∷ [])
+pub last_only : (e : Entry) (es : List Entry) → targets_last (e ∷ es) ≡ targets_last (e ∷ [])
 last_only (entry (ExprShape f n) p) es = refl
 last_only (entry s p) es = refl
 

@@ -149,24 +149,24 @@ of_asks [] es = []
 of_asks (q ∷ qs) [] = []
 of_asks (q ∷ qs) (e ∷ es) = of_ask q e ∷ of_asks qs es
 
-plainly_of : (qs : List Ask) (es : List Entry) → length qs ≡ length es → of_aims (map Simply qs) es ≡ Some (of_asks qs es)
+pub plainly_of : (qs : List Ask) (es : List Entry) → length qs ≡ length es → of_aims (map Simply qs) es ≡ Some (of_asks qs es)
 plainly_of [] [] m = refl
 plainly_of [] (e ∷ es) m = absurd (omega arith)
 plainly_of (q ∷ qs) [] m = absurd (omega arith)
 plainly_of (q ∷ qs) (e ∷ es) m = ap (more_of (Some (of_ask q e))) (plainly_of qs es (omega arith))
 
-one_paired : (q : Ask) (e : Entry) → (is_open q ≡ true → targets_last (e ∷ []) ≡ true) → IsPairedTurned q (of_ask q e)
+pub one_paired : (q : Ask) (e : Entry) → (is_open q ≡ true → targets_last (e ∷ []) ≡ true) → IsPairedTurned q (of_ask q e)
 one_paired NoNode e h = tt
 one_paired (AtLeast n) e h = refl
 one_paired (WithinAtLeast n) e h = refl
 one_paired (OpenAtLeast n) e h = subst (λ (b : Bool). IsPairedTurned (OpenAtLeast n) (if b then Assigned n else Whole n)) (sym (h refl)) refl
 
-none_targets : (qs : List Ask) (es : List Entry) → none_open qs ≡ true → open_targets qs es ≡ false
+pub none_targets : (qs : List Ask) (es : List Entry) → none_open qs ≡ true → open_targets qs es ≡ false
 none_targets [] es h = refl
 none_targets (q ∷ qs) [] h = refl
 none_targets (q ∷ qs) (e ∷ es) h = ap (λ (b : Bool). (b && targets_last (e ∷ [])) || open_targets qs es) (none_rest q qs h).0 ∙ none_targets qs es (none_rest q qs h).1
 
-none_paired : (qs : List Ask) (es : List Entry) → length qs ≡ length es → none_open qs ≡ true → AllPairedTurned qs (of_asks qs es)
+pub none_paired : (qs : List Ask) (es : List Entry) → length qs ≡ length es → none_open qs ≡ true → AllPairedTurned qs (of_asks qs es)
 none_paired [] es m h = tt
 none_paired (q ∷ qs) [] m h = absurd (omega arith)
 none_paired (q ∷ qs) (e ∷ es) m h = (one_paired q e (λ o. let no : true ≡ false = sym o ∙ (none_rest q qs h).0 in absurd (cc)), none_paired qs es (omega arith) (none_rest q qs h).1)
@@ -433,7 +433,7 @@ InReadings front symbols v us =
 pub demands_many : (front : List Token) (symbols : List Symbol) (v : Parts) (b : Behind front [] symbols v) → length b.demands ≡ length (entries_of v)
 demands_many front symbols v b = (closing_law front symbols v b.demands nowhere b.at_front b.specimens b.exactly_is).4
 
-paired_many : (qs : List Ask) (ds : List Demand) → AllPaired qs ds → length qs ≡ length ds
+pub paired_many : (qs : List Ask) (ds : List Demand) → AllPaired qs ds → length qs ≡ length ds
 paired_many [] [] h = refl
 paired_many [] (d ∷ ds) h = absurd h
 paired_many (q ∷ qs) [] h = absurd h

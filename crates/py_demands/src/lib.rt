@@ -14,7 +14,7 @@ ghost use Rattle.py_demands.specs.Decided.{EitherLaw, WholeLaw, BothLaw};
 ghost use Rattle.py_demands.specs.FrontDepth.{FirstLaw};
 ghost use Rattle.py_demands.specs.ItemSteps.{ItemStepsLaw};
 ghost use Rattle.py_demands.specs.Paired.{PairedLaw, SteadyLaw, AgreementLaw};
-ghost use Rattle.py_demands.specs.Readings.{ReadingLaw};
+ghost use Rattle.py_demands.specs.Readings.{ReadingLaw, SettledReadLaw};
 ghost use Rattle.py_demands.specs.Ready.{ReadyLaw};
 ghost use Rattle.py_demands.specs.Steps.{StepsLaw};
 ghost use Rattle.py_demands.specs.TurnedPaired.{TurnedPairedLaw, BothPairsLaw};
@@ -130,4 +130,10 @@ pub fn a_run_reads_one_expression_that_may_be_assigned_to()
 /// that assigns to what may be targets.
 pub fn a_module_stands_no_less_deep_than_a_reading()
     ensures law { ReadingLaw }
+{}
+
+/// Where no item is read of a tuple that may be assigned to, a module that begins with the front has the nodes behind it just as deep as the reading
+/// with targets asks.
+pub fn a_reading_with_targets_is_that_of_a_module()
+    ensures law { SettledReadLaw }
 {}
