@@ -32,3 +32,4 @@ mod ReadingsLow
 mod Passing
 mod TargetsLeft
 mod ReadSettled
+mod BothFirst

@@ -10,6 +10,7 @@
 ghost use Rattle.py_demands.specs.Agreed.{LeastLaw};
 ghost use Rattle.py_demands.specs.Aimed.{ItemLaw};
 ghost use Rattle.py_demands.specs.Bound.{LowerLaw, ClosingLaw};
+ghost use Rattle.py_demands.specs.BothFirst.{BothFirstLaw};
 ghost use Rattle.py_demands.specs.Decided.{EitherLaw, WholeLaw, BothLaw};
 ghost use Rattle.py_demands.specs.FrontDepth.{FirstLaw};
 ghost use Rattle.py_demands.specs.ItemSteps.{ItemStepsLaw};
@@ -136,4 +137,10 @@ pub fn a_module_stands_no_less_deep_than_a_reading()
 /// with targets asks.
 pub fn a_reading_with_targets_is_that_of_a_module()
     ensures law { SettledReadLaw }
+{}
+
+/// Where each of two readings is that of a module that begins with a front, and no module has a node less deep than one of both, the first place where
+/// a node has more than 100 others above it in each of both that has one is the first where the front is nested too deep.
+pub fn the_first_node_too_deep_in_both_readings_is_met()
+    ensures law { BothFirstLaw }
 {}
