@@ -1,9 +1,8 @@
 -- The first place where a front is nested too deep, by two readings.
-use Rattle.std.proofs.Common.{◌≡◌, suc, ◌<◌, ◌≤◌, max, true, false, List, [], ◌∷◌, Option, Some, None, ◌⊎◌, inl, inr, sym, ap, ◌∙◌, subst, arith, append-nil}
+use Rattle.std.proofs.Common.{◌≡◌, suc, ◌<◌, true, false, List, [], Option, Some, None, ◌⊎◌, inl, inr, sym, ap, ◌∙◌, subst, arith, append-nil}
 use Rattle.py_tokens.specs.Token.{Place}
 use Rattle.py_syntax.specs.Token.{Token}
 use Rattle.py_syntax.specs.Tree.{Body}
-use Rattle.py_syntax.specs.Grammar.{IsModule}
 use Rattle.py_syntax.specs.Heights.{most_ancestors}
 use Rattle.py_syntax.specs.Build.{Parts}
 use Rattle.py_syntax.specs.Table.{Symbol}
@@ -11,7 +10,7 @@ use Rattle.py_nesting.specs.Depths.{body_depth}
 use Rattle.py_nesting.specs.Outlines.{Event, built}
 use Rattle.py_nesting.specs.Shapes.{entries_of, outlines_of}
 use Rattle.py_nesting.specs.TooDeep.{same_place, stands_among, HasNode, IsTooDeepAt, GoesOnAs, IsTooDeepInFront}
-use Rattle.py_nesting.specs.Walk.{Demand, Met, met_depth}
+use Rattle.py_nesting.specs.Walk.{Demand, met_depth}
 use Rattle.py_demands.specs.Asks.{avoids}
 use Rattle.py_demands.specs.Behind.{heads, drops_first, Behind}
 use Rattle.py_demands.specs.BothFirst.{IsMetAt, IsDeepAt, IsDeepInBoth, IsFirstInBoth, BothFirstLaw}

@@ -1,15 +1,15 @@
 -- One part at most is asked as a whole or as targets.
-use Rattle.std.proofs.Common.{◌≡◌, ℕ, Bool, true, false, not, ◌&&◌, if◌then◌else◌, List, [], ◌∷◌, ◌++◌, map, Option, Some, None, ◌⊎◌, inl, inr, refl, sym, ap, ◌∙◌, subst}
+use Rattle.std.proofs.Common.{◌≡◌, Bool, true, false, not, ◌&&◌, if◌then◌else◌, List, [], ◌∷◌, ◌++◌, map, Some, None, ◌⊎◌, inl, inr, refl, sym, ap, ◌∙◌, subst}
 use Rattle.grammars.specs.Grammar.{Tok, Non, Do}
 use Rattle.grammars.proofs.Bools.{and_left, and_right, both, not_false}
 use Rattle.py_syntax.specs.Build.{Action, Drop, MakeTargets, AddTargets}
-use Rattle.py_syntax.specs.Table.{Symbol, Nonterminal, Module, SmallTail, AssignTail}
+use Rattle.py_syntax.specs.Table.{Symbol, Nonterminal, SmallTail, AssignTail}
 use Rattle.py_nesting.specs.Outlines.{Plain, Bracket, Tuple}
 use Rattle.py_demands.specs.Least.{Ask, NoNode, AtLeast, WithinAtLeast, OpenAtLeast, ask_by, ask_head, ask_all_changed, ask_changed, Least, As, Opened, ask_least, low, before_action, before_symbol, before, least}
 use Rattle.py_nesting.specs.Walk.{Demand}
 use Rattle.py_demands.specs.Closing.{exactly_by}
 use Rattle.py_demands.specs.Paired.{is_open}
-use Rattle.py_demands.specs.Ready.{begins_row, are_calm, is_inner, makes_targets, are_inner, are_quiet, are_single}
+use Rattle.py_demands.specs.Ready.{begins_row, are_calm, is_inner, makes_targets, are_quiet, are_single}
 use Rattle.py_demands.specs.Roles.{Change, Below, Apart, Loose, Turned, Role, Lost, Head, Through, asked_by, roles}
 use Rattle.py_demands.specs.Turning.{is_tail}
 use Rattle.py_demands.specs.TurnedPaired.{none_open}

@@ -18,21 +18,21 @@ Asked item rest n qs = (i : ItemAsks item rest) × (i.above ≡ n) × (i.below �
 
 pub begins_so : (rest : List Symbol) (n : ℕ) (qs : List Ask) → least rest (Some (AtLeast 0 ∷ [])) ≡ Some (OpenAtLeast n ∷ qs) → are_askable rest (Some (AtLeast 0 ∷ [])) ≡ true → Asked (Non Expression ∷ []) rest n qs
 begins_so rest n qs e k = (
-    record {
-      above = n;
-      below = qs;
-      rest_is = e;
-      rest_askable = k;
-      asks = AtLeast n ∷ qs;
-      asks_are = refl;
-      askable = refl;
-      aims = Targets n ∷ map Simply qs;
-      aims_are = refl;
-      aimable = refl;
-    },
-    refl,
-    refl,
-    )
+  record {
+    above = n;
+    below = qs;
+    rest_is = e;
+    rest_askable = k;
+    asks = AtLeast n ∷ qs;
+    asks_are = refl;
+    askable = refl;
+    aims = Targets n ∷ map Simply qs;
+    aims_are = refl;
+    aimable = refl;
+  },
+  refl,
+  refl,
+)
 
 item_begins : ItemBegins
 item_begins rest n qs e k = (begins_so rest n qs e k).0
@@ -58,20 +58,20 @@ pub first_so : (s : Symbol) (item rest : List Symbol) (i : ItemAsks (s ∷ item)
 first_so s item rest i =
     let q = asks_behind s item (Some (AtLeast (suc i.above) ∷ AtLeast i.above ∷ i.below)) i.asks i.asks_are in
     let a = aims_first s item (Some (Target i.above ∷ Targets i.above ∷ map Simply i.below)) i.aims i.aims_are in (
-    record {
-      above = i.above;
-      below = i.below;
-      rest_is = i.rest_is;
-      rest_askable = i.rest_askable;
-      asks = q.0;
-      asks_are = q.1;
-      askable = askable_rest s item (Some (AtLeast (suc i.above) ∷ AtLeast i.above ∷ i.below)) i.askable;
-      aims = a.0;
-      aims_are = a.1;
-      aimable = aimable_rest s item (Some (Target i.above ∷ Targets i.above ∷ map Simply i.below)) i.aimable;
-    },
-    refl,
-    refl,
+      record {
+        above = i.above;
+        below = i.below;
+        rest_is = i.rest_is;
+        rest_askable = i.rest_askable;
+        asks = q.0;
+        asks_are = q.1;
+        askable = askable_rest s item (Some (AtLeast (suc i.above) ∷ AtLeast i.above ∷ i.below)) i.askable;
+        aims = a.0;
+        aims_are = a.1;
+        aimable = aimable_rest s item (Some (Target i.above ∷ Targets i.above ∷ map Simply i.below)) i.aimable;
+      },
+      refl,
+      refl,
     )
 
 over_first : OverFirst
@@ -99,20 +99,20 @@ item_row_so x r item rest is i =
     let among : Option (List Aim) = Some (Target i.above ∷ Targets i.above ∷ map Simply i.below) in
     let q = row_asked x r item whole (least item whole) is refl (and_left (may_ask_first x (least item whole)) (are_askable item whole) i.askable) (and_right (may_ask_first x (least item whole)) (are_askable item whole) i.askable) in
     let a = row_aimed_at x r item among (aimed item among) is refl (and_left (may_aim_first x (aimed item among)) (are_aimable item among) i.aimable) (and_right (may_aim_first x (aimed item among)) (are_aimable item among) i.aimable) in (
-    record {
-      above = i.above;
-      below = i.below;
-      rest_is = i.rest_is;
-      rest_askable = i.rest_askable;
-      asks = q.0;
-      asks_are = q.1;
-      askable = q.2;
-      aims = a.0;
-      aims_are = a.1;
-      aimable = a.2;
-    },
-    refl,
-    refl,
+      record {
+        above = i.above;
+        below = i.below;
+        rest_is = i.rest_is;
+        rest_askable = i.rest_askable;
+        asks = q.0;
+        asks_are = q.1;
+        askable = q.2;
+        aims = a.0;
+        aims_are = a.1;
+        aimable = a.2;
+      },
+      refl,
+      refl,
     )
 
 over_item_row : OverItemRow

@@ -1,6 +1,6 @@
 -- An action leaves what may be targets where it takes what may be and asks for that as it is asked itself.
-use Rattle.std.proofs.Common.{◌≡◌, ℕ, Bool, true, false, not, ◌&&◌, ◌||◌, List, [], ◌∷◌, ◌++◌, map, length, Option, Some, None, ◌⊎◌, inl, inr, refl, sym, ap, ◌∙◌, subst, arith}
-use Rattle.grammars.proofs.Bools.{and_left, and_right, both, not_false, either, on_left, on_right}
+use Rattle.std.proofs.Common.{◌≡◌, Bool, true, false, not, ◌&&◌, ◌||◌, List, [], ◌∷◌, ◌++◌, map, length, Some, None, ◌⊎◌, inl, inr, refl, sym, ap, ◌∙◌, subst, arith}
+use Rattle.grammars.proofs.Bools.{and_left, and_right, both, either, on_left, on_right}
 use Rattle.py_syntax.specs.Tree.{ComparisonOperator}
 use Rattle.py_syntax.specs.Build.{Action, Drop, MakeTuple, AddItem, MakeTargets, AddTargets, MakeParenthesis, MakeListOfOne, AddCondition, AddLoop, AddPair, AddArgument, AddKeyword, AddUpper, MakeSign, MakeLongSign, AddLink, AddAnd, AddOr, AddLoopName, AddStmt, AddGlobal, MakeElse, CatchAll, Catch, CatchAs, AddParameter, AddDefault, EndDef, AddBase, EndClass, AddImported, AddImportedAs}
 use Rattle.py_nesting.specs.Asked.{targets_last}
@@ -9,10 +9,10 @@ use Rattle.py_nesting.specs.Forms.{BracketForm, are_targets, AndForm, CallForm, 
 use Rattle.py_nesting.specs.Outlines.{Event}
 use Rattle.py_nesting.specs.Shapes.{BodyShape, ClassShape, ExprShape, LoopShape, LoopTargetShape, SignShape, StmtShape, TokenShape, Entry, entry}
 use Rattle.py_nesting.proofs.EffectsKept.{no_effect}
-use Rattle.py_demands.specs.Least.{Ask, NoNode, Least, As, ask_by, before_action}
+use Rattle.py_demands.specs.Least.{Ask, NoNode, As, ask_by, before_action}
 use Rattle.py_demands.specs.Paired.{is_open}
 use Rattle.py_demands.specs.Ready.{makes_targets, adds_to_open}
-use Rattle.py_demands.specs.Roles.{Role, Lost, Head, Through, roles}
+use Rattle.py_demands.specs.Roles.{Role, roles}
 use Rattle.py_demands.specs.TurnedPaired.{begins_targets}
 use Rattle.py_demands.proofs.FewOpen.{passes, turns_not, action_few, none_turn, none_pass, role_stops, role_closed}
 use Rattle.py_demands.proofs.Made.{Leaves, made}

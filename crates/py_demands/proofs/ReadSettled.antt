@@ -1,12 +1,12 @@
 -- Where no item is read of a tuple that may be assigned to, there is a module for the reading with targets.
-use Rattle.std.proofs.Common.{◌≡◌, ℕ, zero, suc, nat_lt, ◌≤◌, Bool, true, false, not, ◌&&◌, ◌||◌, if◌then◌else◌, List, [], ◌∷◌, ◌++◌, map, length, Option, Some, None, ◌⊎◌, inl, inr, refl, sym, ap, ◌∙◌, subst, append-nil, append_assoc, arith}
+use Rattle.std.proofs.Common.{◌≡◌, suc, nat_lt, Bool, true, false, not, ◌&&◌, ◌||◌, if◌then◌else◌, List, [], ◌∷◌, ◌++◌, map, length, Option, Some, None, ◌⊎◌, inl, inr, refl, sym, ap, ◌∙◌, subst, arith}
 use Rattle.grammars.specs.Grammar.{Tok, Non, Do}
-use Rattle.grammars.specs.Sets.{are_below, have_specimens}
-use Rattle.grammars.proofs.Bools.{and_left, and_right, both, not_false, either}
+use Rattle.grammars.specs.Sets.{are_below}
+use Rattle.grammars.proofs.Bools.{and_left, and_right, both, either}
 use Rattle.py_tokens.specs.Token.{Place}
 use Rattle.py_syntax.specs.Token.{Token}
 use Rattle.py_syntax.specs.Build.{Parts, Action, Drop, AddItem, are_targets_last}
-use Rattle.py_syntax.specs.Table.{Symbol, Nonterminal, guarded, table, sets, Module, SmallTail, AssignTail}
+use Rattle.py_syntax.specs.Table.{Symbol, Nonterminal, guarded, sets, Module, SmallTail, AssignTail}
 use Rattle.py_nesting.specs.Asked.{targets_last}
 use Rattle.py_nesting.specs.Shapes.{Entry, entries_of}
 use Rattle.py_nesting.specs.Walk.{Demand, Nothing, Whole, Inside, Assigned}
@@ -14,18 +14,18 @@ use Rattle.py_demands.specs.Aims.{Aim, Simply, Targets, Target, aims_symbol}
 use Rattle.py_demands.specs.Behind.{Behind}
 use Rattle.py_demands.specs.Closing.{asks_exactly, exactly_by, exactly_symbol, exactly_before, exactly}
 use Rattle.py_demands.specs.Least.{Ask, NoNode, AtLeast, WithinAtLeast, OpenAtLeast, ask_least, low, before_symbol, before, least}
-use Rattle.py_demands.specs.Paired.{ArePaired, AllPaired, is_open, are_settled}
-use Rattle.py_demands.specs.Readings.{Reading, Settled, Among, has_never, settled, among, reading_before, reading, of_ask, of_aims, of_reading, targets_reading, acts_first, SettledReadLaw}
+use Rattle.py_demands.specs.Paired.{ArePaired, AllPaired, is_open}
+use Rattle.py_demands.specs.Readings.{Reading, Settled, Among, has_never, among, reading_before, reading, of_ask, of_reading, SettledReadLaw}
 use Rattle.py_demands.specs.Ready.{are_calm, is_inner, are_quiet, are_single, adds_to_open, adds_to_none, Itemed, Ready}
 use Rattle.py_demands.specs.Roles.{asked_by, roles}
-use Rattle.py_demands.specs.Turning.{is_tail, turning, ends, IsReached}
+use Rattle.py_demands.specs.Turning.{is_tail, turning, IsReached}
 use Rattle.py_demands.specs.TurnedPaired.{begins_targets, are_within, IsPairedTurned, AllPairedTurned, none_open}
-use Rattle.py_demands.proofs.Closed.{sets_at, anywhere}
+use Rattle.py_demands.proofs.Closed.{anywhere}
 use Rattle.py_demands.proofs.ExactRows.{exactly_joined, row_asks, behind_first}
-use Rattle.py_demands.proofs.FewOpen.{few_open, none_rest, symbol_none, none_kept, few_kept, calm_first}
+use Rattle.py_demands.proofs.FewOpen.{none_rest, symbol_none, none_kept, few_kept, calm_first}
 use Rattle.py_demands.proofs.LowRows.{least_joined}
 use Rattle.py_demands.proofs.Paired.{agreement_law, paired_law}
-use Rattle.py_demands.proofs.ReadingsLow.{adds_first, settled_reading, calm_settled, open_targets, of_asks, plainly_of, none_targets, one_targets, paired_many, demands_many, ready_calm}
+use Rattle.py_demands.proofs.ReadingsLow.{settled_reading, calm_settled, open_targets, of_asks, plainly_of, none_targets, one_targets, paired_many, demands_many, ready_calm}
 use Rattle.py_demands.proofs.Passing.{last_only}
 use Rattle.py_demands.proofs.Steps.{asks_behind}
 use Rattle.py_demands.proofs.TargetsLeft.{targets_left}

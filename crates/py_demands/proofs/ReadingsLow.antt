@@ -1,26 +1,21 @@
 -- No module that begins with a front has a node less deep than one of the two readings.
-use Rattle.std.proofs.Common.{◌≡◌, ℕ, suc, ◌<◌, Bool, true, false, not, ◌&&◌, ◌||◌, if◌then◌else◌, List, [], ◌∷◌, ◌++◌, map, length, Option, Some, None, ◌⊎◌, inl, inr, refl, sym, ap, ◌∙◌, subst, append-nil, append_assoc, arith}
+use Rattle.std.proofs.Common.{◌≡◌, ℕ, suc, Bool, true, false, not, ◌&&◌, ◌||◌, if◌then◌else◌, List, [], ◌∷◌, ◌++◌, map, length, Option, Some, None, ◌⊎◌, inl, inr, refl, sym, ap, ◌∙◌, subst, arith}
 use Rattle.grammars.specs.Grammar.{Tok, Non, Do}
-use Rattle.grammars.proofs.Bools.{and_left, and_right, both, not_false, either}
-use Rattle.py_tokens.specs.Token.{Place}
+use Rattle.grammars.proofs.Bools.{and_left, and_right, both, not_false}
 use Rattle.py_syntax.specs.Token.{Token}
-use Rattle.py_syntax.specs.Tree.{Body}
-use Rattle.py_syntax.specs.Grammar.{IsModule}
 use Rattle.py_syntax.specs.Build.{Part, Parts, Action, Drop, MakeTuple, AddItem, MakeTargets, AddTargets}
-use Rattle.py_syntax.specs.Table.{Symbol, Nonterminal, SmallTail, AssignTail}
+use Rattle.py_syntax.specs.Table.{Symbol, SmallTail, AssignTail}
 use Rattle.py_nesting.specs.Asked.{targets_last, target_last}
 use Rattle.py_nesting.specs.Depths.{body_depth}
 use Rattle.py_nesting.specs.Shapes.{nowhere, Entry, entry_of, entries_of}
-use Rattle.py_nesting.specs.Walk.{Demand, Nothing, Whole, Inside, Assigned}
-use Rattle.py_demands.specs.Agreed.{IsReadWhole, Agrees, Agree}
+use Rattle.py_nesting.specs.Walk.{Demand, Whole, Assigned}
+use Rattle.py_demands.specs.Agreed.{Agrees, Agree}
 use Rattle.py_demands.specs.Aimed.{ItemAsks}
 use Rattle.py_demands.specs.Aims.{Aim, Simply, Targets, Target, MayTarget, Never, makes_target, made_by, aim_by, Way, Keeps, Extends, Makes, Differs, way, gone, aim_least, aims_by, aims_symbol, aims_before, aimed}
-use Rattle.py_demands.specs.Asks.{avoids}
-use Rattle.py_demands.specs.Behind.{heads, is_once, drops_first, Behind}
-use Rattle.py_demands.specs.Bound.{standing}
+use Rattle.py_demands.specs.Behind.{Behind}
 use Rattle.py_demands.specs.Decided.{IsNoDeeper, InModules, AgreesAim, AgreeAims, IsOut, AreOut}
-use Rattle.py_demands.specs.Least.{Ask, NoNode, AtLeast, WithinAtLeast, OpenAtLeast, ask_by, Least, As, Opened, ask_least, low, before_action, before_symbol, before, least}
-use Rattle.py_demands.specs.Paired.{AllPaired, is_open, settles, settles_first, are_settled, IsWholeIfOpen, AreWholeIfOpen}
+use Rattle.py_demands.specs.Least.{Ask, NoNode, AtLeast, WithinAtLeast, OpenAtLeast, ask_by, Least, As, ask_least, low, before_action, before_symbol, before, least}
+use Rattle.py_demands.specs.Paired.{AllPaired, is_open, settles_first, are_settled, IsWholeIfOpen, AreWholeIfOpen}
 use Rattle.py_demands.specs.Readings.{Reading, Settled, Among, has_never, settled, among, settled_before, reading_before, reading, of_ask, of_aim, more_of, of_aims, of_reading, targets_reading, acts_first, ReadingLaw}
 use Rattle.py_demands.specs.Ready.{begins_row, are_calm, are_calm_below, are_calm_soon, is_inner, are_inner, are_quiet, are_single, adds_to_open, adds_to_none, makes_targets, IsMore, Itemed, Ready}
 use Rattle.py_demands.specs.Roles.{Role, Lost, asked_by, roles, asked_before}
@@ -30,7 +25,7 @@ use Rattle.py_demands.proofs.Agreed.{all_whole, lone_so, least_law}
 use Rattle.py_demands.proofs.AimRows.{aimed_frame}
 use Rattle.py_demands.proofs.AimsKept.{drops_or_aims}
 use Rattle.py_demands.proofs.Decided.{either_law, whole_law, both_law}
-use Rattle.py_demands.proofs.FewOpen.{few_open, action_few, low_few, role_closed, least_closed, none_turn, least_turns_not, calm_makes_none, none_rest, none_few, none_kept, few_kept, calm_first, turns_not}
+use Rattle.py_demands.proofs.FewOpen.{few_open, action_few, low_few, role_closed, least_closed, none_turn, least_turns_not, calm_makes_none, none_rest, none_kept, few_kept, calm_first, turns_not}
 use Rattle.py_demands.proofs.ItemSteps.{aims_first}
 use Rattle.py_demands.proofs.Items.{never_law}
 use Rattle.py_demands.proofs.Ways.{closing_law}
@@ -460,7 +455,7 @@ read_settled front symbols v b c s h = go (open_targets b.asks (entries_of v)) r
     go true e =
         let t = one_targets b.asks (entries_of v) many (few_kept symbols b.asks s c b.least_is) e in
         let agree = both_pairs_law v b.asks b.demands (of_asks b.asks (entries_of v)) (sym (as_many v) ∙ sym many) t.1 paired t.0 in
-        λ clear at once more body m away k. elim (both_law front symbols v b (of_asks b.asks (entries_of v)) agree clear at once more body m away k) [ | inl r ↦ inl r | inr r ↦ inr (of_asks b.asks (entries_of v), read, r) ]
+        λ clear at once more body m away k. elim (both_law front symbols v b (of_asks b.asks (entries_of v)) agree clear at once more body m away k) [ inl r ↦ inl r | inr r ↦ inr (of_asks b.asks (entries_of v), read, r) ]
 
 read_item : (front : List Token) (item rest : List Symbol) (v : Parts) (b : Behind front [] (item ++ Do AddItem ∷ rest) v) (i : ItemAsks item rest) (alone : List Aim) → are_calm item ≡ true → are_inner item ≡ true → are_calm rest ≡ true
     → adds_to_none rest (Some (AtLeast 0 ∷ [])) ≡ true → none_open i.below ≡ true → aimed item (Some (Target i.above ∷ [])) ≡ Some alone → InReadings front (item ++ Do AddItem ∷ rest) v b.demands
@@ -511,11 +506,11 @@ read_item front item rest v b i alone c inner rest_calm rest_settled none alone_
     go (inl r) = by_reading (of_aims i.aims (entries_of v)) refl r aims_many
     go (inr (these, those, others, is, e, never)) =
         λ clear at once more body m away k.
-            let l = never_law front more item rest these those v body i others is e never b.at_front m in
-            inl (elim l.2 [
-              | inl w ↦ lone_so front (item ++ Do AddItem ∷ rest) v b clear at once b.demands l.0 l.1 (all_whole v i.asks b.demands l.0 agree w l.3) (body_depth at body) k (l.4 at).0 ((l.4 at).1 away)
-              | inr w ↦ absurd w
-            ])
+        let l = never_law front more item rest these those v body i others is e never b.at_front m in
+        inl (elim l.2 [
+          | inl w ↦ lone_so front (item ++ Do AddItem ∷ rest) v b clear at once b.demands l.0 l.1 (all_whole v i.asks b.demands l.0 agree w l.3) (body_depth at body) k (l.4 at).0 ((l.4 at).1 away)
+          | inr w ↦ absurd w
+        ])
 
 calm_on_top : (symbols : List Symbol) → acts_first symbols ≡ false → are_calm_below symbols ≡ true → are_calm symbols ≡ true
 calm_on_top [] h c = c

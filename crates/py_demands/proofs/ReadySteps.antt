@@ -1,27 +1,19 @@
 -- How the symbols behind a front stand, step by step.
-use Rattle.std.proofs.Common.{◌≡◌, ℕ, suc, Bool, true, false, not, ◌&&◌, if◌then◌else◌, List, [], ◌∷◌, ◌++◌, map, Option, Some, None, ◌⊎◌, inl, inr, refl, sym, ap, ◌∙◌, subst, append-nil, append_assoc}
+use Rattle.std.proofs.Common.{◌≡◌, ℕ, Bool, true, false, not, ◌&&◌, if◌then◌else◌, List, [], ◌∷◌, ◌++◌, map, Option, Some, None, ◌⊎◌, inl, inr, refl, sym, ap, ◌∙◌, subst, append_assoc}
 use Rattle.grammars.specs.Grammar.{Tok, Non, Do, Row, IsRow}
-use Rattle.grammars.proofs.Bools.{and_left, and_right, both, not_false}
+use Rattle.grammars.proofs.Bools.{and_left, and_right, both}
 use Rattle.py_syntax.specs.Token.{Token}
-use Rattle.py_syntax.specs.Build.{Parts, Action, Drop, MakeTuple, AddItem, MakeTargets, AddTargets}
-use Rattle.py_syntax.specs.Table.{Symbol, Nonterminal, row, rows, Module, SmallTail, AssignTail, ItemMore, ItemNext, Expression, AnyName}
+use Rattle.py_syntax.specs.Build.{Parts, Action, AddItem}
+use Rattle.py_syntax.specs.Table.{Symbol, Nonterminal, rows, Module, SmallTail, AssignTail, ItemMore, ItemNext, Expression, AnyName}
 use Rattle.py_demands.specs.Aimed.{ItemAsks}
-use Rattle.py_demands.specs.Aims.{Aim, Simply, Targets, Target, MayTarget, Never, aims_before, aimed, may_aim, may_aim_first, are_aimable}
-use Rattle.py_demands.specs.Behind.{Behind}
-use Rattle.py_demands.specs.Least.{Ask, NoNode, AtLeast, WithinAtLeast, OpenAtLeast, ask_by, ask_head, ask_all_changed, ask_changed, Least, As, Opened, ask_least, low, before_action, before_symbol, before, least, may_ask_first, are_askable}
-use Rattle.py_demands.specs.Paired.{is_open}
-use Rattle.py_demands.specs.Ready.{begins_row, are_calm, are_calm_below, are_calm_soon, IsMore, is_inner, makes_targets, are_inner, are_quiet, are_single, adds_to_open, adds_to_none, Itemed, Ready, ReadyBeginning, ReadyOverAction, ReadyOverToken, ReadyOverRow, ReadyLaw}
-use Rattle.py_demands.specs.Roles.{Change, Below, Apart, Loose, Turned, Role, Lost, Head, Through, roles}
+use Rattle.py_demands.specs.Aims.{Aim, Simply, Targets, Target, aims_before, aimed, may_aim, may_aim_first, are_aimable}
+use Rattle.py_demands.specs.Least.{Ask, NoNode, AtLeast, WithinAtLeast, OpenAtLeast, before, least, may_ask_first, are_askable}
+use Rattle.py_demands.specs.Ready.{begins_row, are_calm, are_calm_below, are_calm_soon, IsMore, is_inner, makes_targets, are_inner, are_quiet, are_single, adds_to_open, adds_to_none, Itemed, ReadyBeginning, ReadyOverAction, ReadyOverToken, ReadyOverRow, ReadyLaw}
 use Rattle.py_demands.specs.Turning.{is_tail}
 use Rattle.py_demands.specs.TurnedPaired.{none_open}
-use Rattle.py_nesting.specs.Outlines.{Plain, Bracket, Tuple}
 use Rattle.py_demands.proofs.AimRows.{aims_row, aimed_frame, aimed_joined}
-use Rattle.py_demands.proofs.FewOpen.{few_open, few_kept}
+use Rattle.py_demands.proofs.FewOpen.{few_kept}
 use Rattle.py_demands.proofs.ItemSteps.{begins_so, first_so, item_row_so, aims_first}
-use Rattle.py_demands.proofs.LowRows.{least_joined}
-use Rattle.py_demands.proofs.Paired.{drops_or_both}
-use Rattle.py_demands.proofs.Steps.{asks_behind}
-use Rattle.std.proofs.lemmas.Option.{same_Some}
 
 pub ready_at_beginning : ReadyBeginning
 ready_at_beginning front = record { calm = inl refl; single = refl; shaped = inl refl }

@@ -1,5 +1,5 @@
 -- Symbols that are closed leave what may be targets, where that is open before them.
-use Rattle.std.proofs.Common.{◌≡◌, ℕ, zero, suc, nat_lt, ◌<◌, ◌≤◌, Bool, true, false, not, ◌&&◌, ◌||◌, ◌==◌, if◌then◌else◌, List, [], ◌∷◌, ◌++◌, map, length, Option, Some, None, ◌⊎◌, inl, inr, refl, sym, ap, ◌∙◌, subst, append-nil, append_assoc, eqb-true, arith}
+use Rattle.std.proofs.Common.{◌≡◌, ℕ, zero, suc, nat_lt, ◌<◌, Bool, true, false, not, ◌&&◌, ◌||◌, ◌==◌, if◌then◌else◌, List, [], ◌∷◌, ◌++◌, map, Option, Some, None, ◌⊎◌, inl, inr, refl, sym, ap, ◌∙◌, subst, eqb-true, arith}
 use Rattle.grammars.specs.Grammar.{Tok, Non, Do}
 use Rattle.grammars.specs.Sets.{are_below, have_specimens}
 use Rattle.grammars.proofs.Bools.{and_left, and_right, both, not_false, either, on_left, on_right}
@@ -7,9 +7,9 @@ use Rattle.py_tokens.specs.Token.{Place}
 use Rattle.py_syntax.specs.Token.{Token, At}
 use Rattle.py_syntax.specs.Kinds.{kind_at, kind_of}
 use Rattle.py_syntax.specs.Build.{PToken, Parts, Action, AddItem, act}
-use Rattle.py_syntax.specs.Table.{Symbol, Nonterminal, row, rows, table, sets, Module, SmallTail, AssignTail}
+use Rattle.py_syntax.specs.Table.{Symbol, Nonterminal, row, table, sets, Module, SmallTail, AssignTail}
 use Rattle.py_nesting.specs.Asked.{targets_last}
-use Rattle.py_nesting.specs.Effects.{Effect, effect, effect_of}
+use Rattle.py_nesting.specs.Effects.{effect}
 use Rattle.py_nesting.specs.Shapes.{Entry, entry_of, entries_of}
 use Rattle.py_nesting.proofs.EffectsKept.{effects_kept}
 use Rattle.py_fronts.specs.Fit.{Fit}
@@ -17,7 +17,7 @@ use Rattle.py_fronts.specs.Kinds.{fits, token_kind}
 use Rattle.py_fronts.proofs.DerivedFit.{token_fits_so}
 use Rattle.py_fronts.proofs.TableFits.{row_fits}
 use Rattle.py_demands.specs.Closing.{closing}
-use Rattle.py_demands.specs.Least.{Ask, NoNode, AtLeast, WithinAtLeast, OpenAtLeast, Least, ask_least, low, before_symbol, before, least}
+use Rattle.py_demands.specs.Least.{Ask, NoNode, AtLeast, WithinAtLeast, OpenAtLeast, ask_least, low, before_symbol, before, least}
 use Rattle.py_demands.specs.Paired.{is_open}
 use Rattle.py_demands.specs.Ready.{adds_to_open, adds_to_none}
 use Rattle.py_demands.specs.Turning.{is_tail, with_effect, then_ends, ends}

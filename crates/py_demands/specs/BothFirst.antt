@@ -1,5 +1,5 @@
 -- The first place where a front of a module is nested too deep, where two readings tell how deep its nodes stand.
-use Rattle.std.specs.Prelude.{◌≡◌, suc, ◌<◌, true, false, List, [], Option, Some, None, ◌⊎◌}
+use Rattle.std.specs.Prelude.{◌≡◌, suc, ◌<◌, false, List, [], Option, Some, None, ◌⊎◌}
 use Rattle.py_tokens.specs.Token.{Place}
 use Rattle.py_tokens.specs.Places.{is_before}
 use Rattle.py_syntax.specs.Token.{Token}
