@@ -23,7 +23,7 @@ use Rattle.py_demands.proofs.Agreed.{kept_so}
 use Rattle.py_demands.proofs.FrontFirst.{front_counts, stands_or_not, avoided_so, not_among, heads_avoided, last_line, beyond, apart_from}
 
 -- a node that is asked for stands at a token of the front
-among : (front : List Token) (symbols : List Symbol) (v : Parts) (b : Behind front [] symbols v) (ds : List Demand) (p : Place) → drops_first symbols ≡ false → 0 < standing (same_place p) v ds → stands_among front p ≡ true
+pub among : (front : List Token) (symbols : List Symbol) (v : Parts) (b : Behind front [] symbols v) (ds : List Demand) (p : Place) → drops_first symbols ≡ false → 0 < standing (same_place p) v ds → stands_among front p ≡ true
 among front symbols v b ds p first h = elim (stands_or_not p front) [
   | inl e ↦ e
   | inr e ↦

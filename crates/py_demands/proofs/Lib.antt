@@ -33,3 +33,4 @@ mod Passing
 mod TargetsLeft
 mod ReadSettled
 mod BothFirst
+mod BothFound

@@ -1,5 +1,5 @@
 -- The first place where a front of a module is nested too deep, where two readings tell how deep its nodes stand.
-use Rattle.std.specs.Prelude.{◌≡◌, suc, ◌<◌, false, List, [], Option, Some, None, ◌⊎◌}
+use Rattle.std.specs.Prelude.{◌≡◌, suc, ◌<◌, Bool, true, false, not, ◌&&◌, ◌||◌, nat_lt, if◌then◌else◌, List, [], ◌∷◌, Option, Some, None, ◌⊎◌}
 use Rattle.py_tokens.specs.Token.{Place}
 use Rattle.py_tokens.specs.Places.{is_before}
 use Rattle.py_syntax.specs.Token.{Token}
@@ -8,8 +8,9 @@ use Rattle.py_syntax.specs.Build.{Parts}
 use Rattle.py_syntax.specs.Table.{Symbol}
 use Rattle.py_nesting.specs.Outlines.{Event, built}
 use Rattle.py_nesting.specs.Shapes.{entries_of, outlines_of}
-use Rattle.py_nesting.specs.TooDeep.{same_place}
+use Rattle.py_nesting.specs.TooDeep.{same_place, stands_among}
 use Rattle.py_nesting.specs.Walk.{Demand, Met, met_depth}
+use Rattle.py_demands.specs.Asks.{place_of}
 use Rattle.py_demands.specs.Behind.{drops_first, Behind}
 use Rattle.py_demands.specs.Decided.{IsNoDeeper, InModules}
 use Rattle.py_demands.specs.FrontDepth.{IsFirstInFront, AreApart, front_met}
@@ -39,3 +40,34 @@ BothFirstLaw =
     → built events ≡ Some (outlines_of v) → InModules front symbols (λ at body. IsNoDeeper at v us body ⊎ IsNoDeeper at v ws body)
     → ((p : Place) → IsReached front v us p) → ((p : Place) → IsReached front v ws p)
     → IsFirstInBoth o (front_met (entries_of v) events us) (front_met (entries_of v) events ws) → IsFirstInFront o front
+
+-- the same by computation
+abbrev pub is_met_at : List Met → Place → Bool
+is_met_at nodes p = nat_lt 0 (met_depth (same_place p) nodes)
+
+abbrev pub is_deep_at : List Met → Place → Bool
+is_deep_at nodes p = nat_lt (suc most_ancestors) (met_depth (same_place p) nodes)
+
+abbrev pub is_clear_at : List Met → Place → Bool
+is_clear_at nodes p = not (is_met_at nodes p) || is_deep_at nodes p
+
+abbrev pub is_deep_in_both : List Met → List Met → Place → Bool
+is_deep_in_both nodes others p = (is_met_at nodes p || is_met_at others p) && (is_clear_at nodes p && is_clear_at others p)
+
+-- the place of the first token where it is so
+abbrev pub first_in_both : List Met → List Met → List Token → Option Place
+first_in_both nodes others [] = None
+first_in_both nodes others (t ∷ ts) = if is_deep_in_both nodes others (place_of t) then Some (place_of t) else first_in_both nodes others ts
+
+-- no token stands before an earlier one
+abbrev pub AreInOrder : List Token → Type 0
+AreInOrder [] = Unit {0}
+AreInOrder (t ∷ ts) = ((p : Place) → stands_among ts p ≡ true → is_before p (place_of t) ≡ false) × AreInOrder ts
+
+-- Where the tokens of the front are in order, the place is found by going over them.
+abbrev pub BothFoundLaw : Type 0
+BothFoundLaw =
+    (front : List Token) (symbols : List Symbol) (v : Parts) (b : Behind front [] symbols v) (us ws : List Demand) (events : List Event) → drops_first symbols ≡ false → AreInOrder front → AreApart front
+    → built events ≡ Some (outlines_of v) → InModules front symbols (λ at body. IsNoDeeper at v us body ⊎ IsNoDeeper at v ws body)
+    → ((p : Place) → IsReached front v us p) → ((p : Place) → IsReached front v ws p)
+    → IsFirstInFront (first_in_both (front_met (entries_of v) events us) (front_met (entries_of v) events ws) front) front

@@ -10,7 +10,7 @@
 ghost use Rattle.py_demands.specs.Agreed.{LeastLaw};
 ghost use Rattle.py_demands.specs.Aimed.{ItemLaw};
 ghost use Rattle.py_demands.specs.Bound.{LowerLaw, ClosingLaw};
-ghost use Rattle.py_demands.specs.BothFirst.{BothFirstLaw};
+ghost use Rattle.py_demands.specs.BothFirst.{BothFirstLaw, BothFoundLaw};
 ghost use Rattle.py_demands.specs.Decided.{EitherLaw, WholeLaw, BothLaw};
 ghost use Rattle.py_demands.specs.FrontDepth.{FirstLaw};
 ghost use Rattle.py_demands.specs.ItemSteps.{ItemStepsLaw};
@@ -143,4 +143,9 @@ pub fn a_reading_with_targets_is_that_of_a_module()
 /// a node has more than 100 others above it in each of both that has one is the first where the front is nested too deep.
 pub fn the_first_node_too_deep_in_both_readings_is_met()
     ensures law { BothFirstLaw }
+{}
+
+/// Where the tokens are in order, that place is found by going over them.
+pub fn the_first_node_too_deep_in_both_readings_is_found_by_tokens()
+    ensures law { BothFoundLaw }
 {}
