@@ -1,20 +1,15 @@
 -- A place that is found, token by token, where two readings have a node too deep.
-use Rattle.std.proofs.Common.{◌≡◌, ℕ, suc, ◌<◌, Bool, true, false, not, ◌&&◌, ◌||◌, ◌==◌, nat_lt, if◌then◌else◌, List, [], ◌∷◌, Option, Some, None, ◌⊎◌, inl, inr, refl, sym, ap, ◌∙◌, subst, eqb-true, arith}
+use Rattle.std.proofs.Common.{◌≡◌, suc, Bool, true, false, not, ◌&&◌, ◌||◌, ◌==◌, if◌then◌else◌, List, [], ◌∷◌, Option, Some, None, ◌⊎◌, inl, inr, refl, sym, ap, ◌∙◌, eqb-true, arith}
 use Rattle.grammars.proofs.Bools.{and_left, and_right, both, either, on_left, on_right, implied}
 use Rattle.py_tokens.specs.Token.{Place}
 use Rattle.py_tokens.specs.Places.{is_before}
 use Rattle.py_syntax.specs.Token.{Token}
 use Rattle.py_syntax.specs.Heights.{most_ancestors}
-use Rattle.py_syntax.specs.Build.{Parts}
-use Rattle.py_syntax.specs.Table.{Symbol}
-use Rattle.py_nesting.specs.Outlines.{Event, built}
-use Rattle.py_nesting.specs.Shapes.{entries_of, outlines_of}
+use Rattle.py_nesting.specs.Shapes.{entries_of}
 use Rattle.py_nesting.specs.TooDeep.{same_place, stands_among}
-use Rattle.py_nesting.specs.Walk.{Demand, Met, met_depth}
+use Rattle.py_nesting.specs.Walk.{Met, met_depth}
 use Rattle.py_demands.specs.Asks.{place_of}
-use Rattle.py_demands.specs.Behind.{drops_first, Behind}
 use Rattle.py_demands.specs.BothFirst.{IsMetAt, IsDeepAt, IsDeepInBoth, IsFirstInBoth, is_met_at, is_deep_at, is_clear_at, is_deep_in_both, first_in_both, AreInOrder, BothFoundLaw}
-use Rattle.py_demands.specs.Bound.{standing}
 use Rattle.py_demands.specs.FrontDepth.{front_met}
 use Rattle.py_demands.proofs.BothFirst.{among, both_first_law}
 use Rattle.py_demands.proofs.FrontFirst.{front_counts}
@@ -88,7 +83,7 @@ found_among (t ∷ ts) nodes others o = go (is_deep_in_both nodes others (place_
     here q e s d = let same : q ≡ place_of t = place_is q (place_of t) s in let no : true ≡ false = sym (both_is nodes others q d) ∙ ap (is_deep_in_both nodes others) same ∙ e in absurd (cc)
 
     further : (q : Place) (P : Type 0) → stands_among (t ∷ ts) q ≡ true → (same_place q (place_of t) ≡ true → P) → (stands_among ts q ≡ true → P) → P
-    further q P s one rest = elim (either (same_place q (place_of t)) (stands_among ts q) s) [ | inl k ↦ one k | inr k ↦ rest k ]
+    further q P s one rest = elim (either (same_place q (place_of t)) (stands_among ts q) s) [ inl k ↦ one k | inr k ↦ rest k ]
 
     at_token : is_deep_in_both nodes others (place_of t) ≡ false → (w : Option Place) → IsFirstAmong w ts nodes others → IsFirstAmong w (t ∷ ts) nodes others
     at_token e None f = λ q s d. further q ⊥ s (λ k. here q e k d) (λ k. f q k d)

@@ -6,7 +6,7 @@ use Rattle.grammars.proofs.Bools.{and_left, and_right, both, either}
 use Rattle.py_tokens.specs.Token.{Place}
 use Rattle.py_syntax.specs.Token.{Token}
 use Rattle.py_syntax.specs.Build.{Parts, Action, Drop, AddItem, are_targets_last}
-use Rattle.py_syntax.specs.Table.{Symbol, Nonterminal, guarded, sets, Module, SmallTail, AssignTail}
+use Rattle.py_syntax.specs.Table.{Symbol, Nonterminal, guarded, Module, SmallTail, AssignTail}
 use Rattle.py_nesting.specs.Asked.{targets_last}
 use Rattle.py_nesting.specs.Shapes.{Entry, entries_of}
 use Rattle.py_nesting.specs.Walk.{Demand, Nothing, Whole, Inside, Assigned}
@@ -27,6 +27,7 @@ use Rattle.py_demands.proofs.LowRows.{least_joined}
 use Rattle.py_demands.proofs.Paired.{agreement_law, paired_law}
 use Rattle.py_demands.proofs.ReadingsLow.{settled_reading, calm_settled, open_targets, of_asks, plainly_of, none_targets, one_targets, paired_many, demands_many, ready_calm}
 use Rattle.py_demands.proofs.Passing.{last_only}
+use Rattle.py_demands.proofs.RowsClose.{closing_rank, closing_sets}
 use Rattle.py_demands.proofs.Steps.{asks_behind}
 use Rattle.py_demands.proofs.TargetsLeft.{targets_left}
 use Rattle.py_demands.proofs.TurnedPaired.{turned_paired_law}
@@ -112,15 +113,15 @@ tail_found (Non x ∷ symbols) asks s c e = go (is_inner x) (is_tail x) refl ref
     go false true i t s again = inr (record { above = []; tail = x; rest = symbols; symbols_are = refl; is_one = t; within = refl; quiet = s; calm = c })
 
 -- the symbols are enough for any nonterminal
-ranked : (x : Nonterminal) → nat_lt (sets.rank x) 100 ≡ true
+ranked : (x : Nonterminal) → nat_lt (closing_rank x) 100 ≡ true
 ranked Module = refl
 ranked _ = refl
 
-pub all_ranked : (symbols : List Symbol) → are_below sets 100 symbols ≡ true
+pub all_ranked : (symbols : List Symbol) → are_below closing_sets 100 symbols ≡ true
 all_ranked [] = refl
 all_ranked (Tok k ∷ symbols) = all_ranked symbols
 all_ranked (Do a ∷ symbols) = all_ranked symbols
-all_ranked (Non x ∷ symbols) = both (nat_lt (sets.rank x) 100) (are_below sets 100 symbols) (ranked x) (all_ranked symbols)
+all_ranked (Non x ∷ symbols) = both (nat_lt (closing_rank x) 100) (are_below closing_sets 100 symbols) (ranked x) (all_ranked symbols)
 
 -- what is asked where the expression is assigned to goes together with what is asked at least
 none_turned : (qs : List Ask) (ds : List Demand) → none_open qs ≡ true → AllPaired qs ds → AllPairedTurned qs ds

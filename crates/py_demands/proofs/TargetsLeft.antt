@@ -7,7 +7,7 @@ use Rattle.py_tokens.specs.Token.{Place}
 use Rattle.py_syntax.specs.Token.{Token, At}
 use Rattle.py_syntax.specs.Kinds.{kind_at, kind_of}
 use Rattle.py_syntax.specs.Build.{PToken, Parts, Action, AddItem, act}
-use Rattle.py_syntax.specs.Table.{Symbol, Nonterminal, row, table, sets, Module, SmallTail, AssignTail}
+use Rattle.py_syntax.specs.Table.{Symbol, Nonterminal, row, table, Module, SmallTail, AssignTail}
 use Rattle.py_nesting.specs.Asked.{targets_last}
 use Rattle.py_nesting.specs.Effects.{effect}
 use Rattle.py_nesting.specs.Shapes.{Entry, entry_of, entries_of}
@@ -26,7 +26,7 @@ use Rattle.py_demands.proofs.Closed.{sets_at, anywhere}
 use Rattle.py_demands.proofs.LowRows.{least_frame}
 use Rattle.py_demands.proofs.Passing.{adds_items, action_passed}
 use Rattle.py_demands.proofs.ReadingsLow.{adds_first, open_targets}
-use Rattle.py_demands.proofs.RowsClose.{is_row, closed_below, closed_by_specimens}
+use Rattle.py_demands.proofs.RowsClose.{is_row, closing_rank, closing_sets, closed_below, closed_by_specimens}
 use Rattle.py_demands.proofs.Steps.{asks_behind}
 use Rattle.std.proofs.lemmas.Bool.{lt-ltb, ltb-true}
 use Rattle.std.proofs.lemmas.Option.{same_Some}
@@ -96,12 +96,12 @@ adds_so (Do a ∷ symbols) o h = both (not (adds_to_open a (least symbols o))) (
 lt_before : (a b c : ℕ) → nat_lt a b ≡ true → nat_lt b (suc c) ≡ true → nat_lt a c ≡ true
 lt_before a b c h k = let l : a < b = ltb-true a b h in let m : b < suc c = ltb-true b (suc c) k in lt-ltb a c (omega arith)
 
-below_more : (symbols : List Symbol) (m n : ℕ) → nat_lt m (suc n) ≡ true → are_below sets m symbols ≡ true → are_below sets n symbols ≡ true
+below_more : (symbols : List Symbol) (m n : ℕ) → nat_lt m (suc n) ≡ true → are_below closing_sets m symbols ≡ true → are_below closing_sets n symbols ≡ true
 below_more [] m n l h = refl
 below_more (Tok k ∷ symbols) m n l h = below_more symbols m n l h
 below_more (Do a ∷ symbols) m n l h = below_more symbols m n l h
 below_more (Non x ∷ symbols) m n l h =
-    both (nat_lt (sets.rank x) n) (are_below sets n symbols) (lt_before (sets.rank x) m n (and_left (nat_lt (sets.rank x) m) (are_below sets m symbols) h) l) (below_more symbols m n l (and_right (nat_lt (sets.rank x) m) (are_below sets m symbols) h))
+    both (nat_lt (closing_rank x) n) (are_below closing_sets n symbols) (lt_before (closing_rank x) m n (and_left (nat_lt (closing_rank x) m) (are_below closing_sets m symbols) h) l) (below_more symbols m n l (and_right (nat_lt (closing_rank x) m) (are_below closing_sets m symbols) h))
 
 pub record Left (n : ℕ) (p : Place) (symbols more : List Symbol) (v : Parts) (qs : List Ask) : Type 0 where
   pub left : Parts
@@ -114,7 +114,7 @@ within_rest (Tok k) symbols h = h
 within_rest (Non x) symbols h = and_right (not (is_tail x)) (are_within symbols) h
 within_rest (Do a) symbols h = and_right (not (begins_targets a)) (are_within symbols) h
 
-pub targets_left : (n : ℕ) (p : Place) (symbols more : List Symbol) (v : Parts) (qs asks : List Ask) → are_below sets n symbols ≡ true → have_specimens table (sets_at p) symbols ≡ true → are_within symbols ≡ true
+pub targets_left : (n : ℕ) (p : Place) (symbols more : List Symbol) (v : Parts) (qs asks : List Ask) → are_below closing_sets n symbols ≡ true → have_specimens table (sets_at p) symbols ≡ true → are_within symbols ≡ true
     → adds_to_none symbols (Some qs) ≡ true → Fit (symbols ++ more) (entries_of v) → least symbols (Some qs) ≡ Some asks → open_targets asks (entries_of v) ≡ true → Left n p symbols more v qs
 targets_left n p [] more v qs asks r k w a f e h = record { left = v; ends_so = refl; fit = f; targets = ap (λ (l : List Ask). open_targets l (entries_of v)) (same_Some qs asks e) ∙ h }
 targets_left n p (Tok j ∷ symbols) more v qs asks r k w a f e h =
@@ -135,13 +135,13 @@ targets_left n p (Do c ∷ symbols) more v qs asks r k w a f e h =
     let passed = action_passed c (entries_of v) f.0 f.1 b.0 asks (not_false (begins_targets c) (and_left (not (begins_targets c)) (are_within symbols) w)) (and_left (not (adds_to_open c (Some b.0))) true fair.0) f.2 (sym (ap (before (Do c)) b.1) ∙ e) h in
     let l = targets_left n p symbols more (act c v) qs b.0 r k (within_rest (Do c) symbols w) fair.1 (subst (Fit (symbols ++ more)) (sym kept.0) f.3) b.1 (ap (open_targets b.0) kept.0 ∙ passed) in
     record { left = l.left; ends_so = ap (with_effect (ends n p symbols)) f.2 ∙ ap (ends n p symbols) (sym kept.0) ∙ l.ends_so; fit = l.fit; targets = l.targets }
-targets_left zero p (Non x ∷ symbols) more v qs asks r k w a f e h = let l : sets.rank x < 0 = ltb-true (sets.rank x) 0 (and_left (nat_lt (sets.rank x) 0) (are_below sets 0 symbols) r) in absurd (omega arith)
+targets_left zero p (Non x ∷ symbols) more v qs asks r k w a f e h = let l : closing_rank x < 0 = ltb-true (closing_rank x) 0 (and_left (nat_lt (closing_rank x) 0) (are_below closing_sets 0 symbols) r) in absurd (omega arith)
 targets_left (suc n) p (Non x ∷ symbols) more v qs asks r k w a f e h =
     let b = asks_behind (Non x) symbols (Some qs) asks e in
     at_row b.0 b.1 (sym (ap (before (Non x)) b.1) ∙ e)
-    (λ q cs rs i o. targets_left n p (closing x) (symbols ++ more) v (q ∷ cs) rs (below_more (closing x) (sets.rank x) n (and_left (nat_lt (sets.rank x) (suc n)) (are_below sets (suc n) symbols) r) (closed_below x)) (anywhere p (closing x) (closed_by_specimens x)) (closing_within x)
+    (λ q cs rs i o. targets_left n p (closing x) (symbols ++ more) v (q ∷ cs) rs (below_more (closing x) (closing_rank x) n (and_left (nat_lt (closing_rank x) (suc n)) (are_below closing_sets (suc n) symbols) r) (closed_below x)) (anywhere p (closing x) (closed_by_specimens x)) (closing_within x)
     (adds_so (closing x) (Some (q ∷ cs)) (closing_adds x)) (row_fits x (row (closing x)) v (symbols ++ more) (is_row x) refl f.0 f.1) i o)
-    (λ rs u g i o. targets_left (suc n) p symbols more u qs rs (and_right (nat_lt (sets.rank x) (suc n)) (are_below sets (suc n) symbols) r) k (within_rest (Non x) symbols w) a g i o)
+    (λ rs u g i o. targets_left (suc n) p symbols more u qs rs (and_right (nat_lt (closing_rank x) (suc n)) (are_below closing_sets (suc n) symbols) r) k (within_rest (Non x) symbols w) a g i o)
   where
     at_row : (rs : List Ask) → least symbols (Some qs) ≡ Some rs → before_symbol (Non x) rs ≡ Some asks
         → ((q : Ask) (cs others : List Ask) → least (closing x) (Some (q ∷ cs)) ≡ Some others → open_targets others (entries_of v) ≡ true → Left n p (closing x) (symbols ++ more) v (q ∷ cs))
