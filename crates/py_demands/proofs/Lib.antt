@@ -34,3 +34,5 @@ mod TargetsLeft
 mod ReadSettled
 mod BothFirst
 mod BothFound
+mod Shut
+mod ClosedForms

@@ -215,10 +215,10 @@ drop_passed : (es new : List Entry) (events : List Event) (qs : List Ask) → ef
 drop_passed (entry (TokenShape t) p ∷ es) new events qs e h = let is : es ≡ new = cc in subst (λ (l : List Entry). open_targets qs l ≡ true) is h
 drop_passed es new events qs e h = no_effect e
 
-abbrev LeavesOne : Action → Type 0
+abbrev pub LeavesOne : Action → Type 0
 LeavesOne a = (a ≡ Drop) ⊎ (((q : Ask) (qs : List Ask) → before_action a (q ∷ qs) ≡ Some (map (ask_by q) (roles a) ++ qs)) × (before_action a [] ≡ None))
 
-leaves_one : (a : Action) → LeavesOne a
+pub leaves_one : (a : Action) → LeavesOne a
 leaves_one Drop = inl refl
 leaves_one _ = inr ((λ q qs. refl), refl)
 

@@ -96,7 +96,7 @@ adds_so (Do a ∷ symbols) o h = both (not (adds_to_open a (least symbols o))) (
 lt_before : (a b c : ℕ) → nat_lt a b ≡ true → nat_lt b (suc c) ≡ true → nat_lt a c ≡ true
 lt_before a b c h k = let l : a < b = ltb-true a b h in let m : b < suc c = ltb-true b (suc c) k in lt-ltb a c (omega arith)
 
-below_more : (symbols : List Symbol) (m n : ℕ) → nat_lt m (suc n) ≡ true → are_below closing_sets m symbols ≡ true → are_below closing_sets n symbols ≡ true
+pub below_more : (symbols : List Symbol) (m n : ℕ) → nat_lt m (suc n) ≡ true → are_below closing_sets m symbols ≡ true → are_below closing_sets n symbols ≡ true
 below_more [] m n l h = refl
 below_more (Tok k ∷ symbols) m n l h = below_more symbols m n l h
 below_more (Do a ∷ symbols) m n l h = below_more symbols m n l h

@@ -3,8 +3,9 @@
 //! `specs/Roles.antt` says of each action what it asks of the parts that it takes, by what is asked of the part that it leaves, and
 //! `specs/Least.antt` what each nonterminal asks at least; `specs/Closing.antt` is one way to close the symbols. A tuple that may yet be
 //! assigned to is read in two ways: `specs/Aims.antt` says what is asked of an item among targets, `specs/Turning.antt` how the tuple is
-//! assigned to, and `specs/Decided.antt` that no module has a node less deep than one of both ways. The functions below have no body: they
-//! carry laws.
+//! assigned to, and `specs/Decided.antt` that no module has a node less deep than one of both ways. `specs/Ready.antt` says how the symbols of a
+//! run stand, from which `specs/Readings.antt` computes the reading with targets, and `specs/BothFirst.antt` finds by both readings where a front
+//! is nested too deep first. The functions below have no body: they carry laws.
 #![tactic(auto)]
 
 ghost use Rattle.py_demands.specs.Agreed.{LeastLaw};
