@@ -36,3 +36,4 @@ mod BothFirst
 mod BothFound
 mod Shut
 mod ClosedForms
+mod ItemTurned

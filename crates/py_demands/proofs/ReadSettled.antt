@@ -226,14 +226,14 @@ exactly_there (s ∷ symbols) ds us rs m e =
     (w.0, ap (exactly_before s) r.1 ∙ w.1, w.2)
 
 -- what is open stands on top
-abbrev opens_top : List Ask → Bool
+abbrev pub opens_top : List Ask → Bool
 opens_top [] = true
 opens_top (q ∷ qs) = none_open qs
 
 last_so : (e : Entry) (es : List Entry) → targets_last (e ∷ []) ≡ true → targets_last (e ∷ es) ≡ true
 last_so e es h = last_only e es ∙ h
 
-top_targets : (qs : List Ask) (es : List Entry) → opens_top qs ≡ true → open_targets qs es ≡ true → targets_last es ≡ true
+pub top_targets : (qs : List Ask) (es : List Entry) → opens_top qs ≡ true → open_targets qs es ≡ true → targets_last es ≡ true
 top_targets [] es o h = absurd (cc)
 top_targets (q ∷ qs) [] o h = absurd (cc)
 top_targets (q ∷ qs) (e ∷ es) o h = go (either (is_open q && targets_last (e ∷ [])) (open_targets qs es) h)
