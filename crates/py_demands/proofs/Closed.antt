@@ -29,7 +29,7 @@ use Rattle.py_demands.specs.Bound.{standing}
 use Rattle.py_demands.proofs.EffectsTied.{tied}
 use Rattle.std.proofs.lemmas.Option.{same_Some}
 use Rattle.py_demands.proofs.Bounded.{stands_before, stands_behind, token_avoided}
-use Rattle.py_demands.proofs.RowsClose.{is_row, closes, closed_below, closed_by_specimens}
+use Rattle.py_demands.proofs.RowsClose.{is_row, closes, closing_rank, closing_sets, closed_below, closed_by_specimens}
 
 -- nodes stand behind as deep as before, but for those at this place
 abbrev pub Same : (Place → Bool) → Place → Parts → List Demand → Parts → List Demand → Type 0
@@ -122,7 +122,7 @@ rows_lead p x symbols v u w l k more events f b g =
 
 -- tokens at p
 abbrev pub sets_at : Place → Sets Nonterminal Token
-sets_at p = record { nullable = sets.nullable; first = sets.first; follow = sets.follow; rank = sets.rank; specimen = λ k. At p (kind_at k) }
+sets_at p = record { nullable = sets.nullable; first = sets.first; follow = sets.follow; rank = closing_rank; specimen = λ k. At p (kind_at k) }
 
 -- which place it is makes no difference
 pub anywhere : (p : Place) (symbols : List Symbol) → have_specimens table sets symbols ≡ true → have_specimens table (sets_at p) symbols ≡ true
@@ -131,10 +131,10 @@ anywhere p (Tok k ∷ symbols) h = both (kind_of (At p (kind_at k)) == k) _ (and
 anywhere p (Non x ∷ symbols) h = anywhere p symbols h
 anywhere p (Do a ∷ symbols) h = anywhere p symbols h
 
-below_anywhere : (p : Place) (n : ℕ) (symbols : List Symbol) → are_below sets n symbols ≡ true → are_below (sets_at p) n symbols ≡ true
+below_anywhere : (p : Place) (n : ℕ) (symbols : List Symbol) → are_below closing_sets n symbols ≡ true → are_below (sets_at p) n symbols ≡ true
 below_anywhere p n [] h = refl
 below_anywhere p n (Tok k ∷ symbols) h = below_anywhere p n symbols h
-below_anywhere p n (Non x ∷ symbols) h = both (nat_lt (sets.rank x) n) _ (and_left _ _ h) (below_anywhere p n symbols (and_right _ _ h))
+below_anywhere p n (Non x ∷ symbols) h = both (nat_lt (closing_rank x) n) _ (and_left _ _ h) (below_anywhere p n symbols (and_right _ _ h))
 below_anywhere p n (Do a ∷ symbols) h = below_anywhere p n symbols h
 
 led : (p : Place) → IsLed table (sets_at p) (Leads p)
@@ -142,7 +142,7 @@ led p = record {
   nothing = nothing_leads p;
   token = λ k symbols v w kind l. token_leads p k symbols v w kind l;
   action = action_leads p;
-  rows = λ x v. (row (closing x), is_row x, refl, below_anywhere p (sets.rank x) (closing x) (closed_below x), anywhere p (closing x) (closed_by_specimens x), λ symbols u w l k. rows_lead p x symbols v u w l k);
+  rows = λ x v. (row (closing x), is_row x, refl, below_anywhere p (closing_rank x) (closing x) (closed_below x), anywhere p (closing x) (closed_by_specimens x), λ symbols u w l k. rows_lead p x symbols v u w l k);
 }
 
 avoided : (at : Place → Bool) (p : Place) (ts : List Token) → at p ≡ false → AreSpecimens (sets_at p) ts → avoids at ts ≡ true

@@ -53,7 +53,7 @@ tokens_count at (e ∷ es) [] nodes = omega arith
 tokens_count at (e ∷ es) (d ∷ ds) nodes =
     let one = entry_counts at e d (tokens_met es ds nodes) in let rest = tokens_count at es ds nodes in omega arith
 
-front_counts : (at : Place → Bool) (v : Parts) (events : List Event) (ds : List Demand) → built events ≡ Some (outlines_of v) → met_depth at (front_met (entries_of v) events ds) ≡ standing at v ds
+pub front_counts : (at : Place → Bool) (v : Parts) (events : List Event) (ds : List Demand) → built events ≡ Some (outlines_of v) → met_depth at (front_met (entries_of v) events ds) ≡ standing at v ds
 front_counts at v events ds b =
     let parts = walk_counts at events (outlines_of v) (of_outlines (entries_of v) ds) b in
     let tokens = tokens_count at (entries_of v) ds (walk events (of_outlines (entries_of v) ds)) in omega arith
@@ -67,7 +67,7 @@ stands_so p (t ∷ ts) h k = go (same_place p (place_of t)) refl h k (λ i j. st
     go true e h k again = absurd (cc)
     go false e h k again = again h k
 
-stands_or_not : (p : Place) (ts : List Token) → (stands_among ts p ≡ true) ⊎ (avoids (same_place p) ts ≡ true)
+pub stands_or_not : (p : Place) (ts : List Token) → (stands_among ts p ≡ true) ⊎ (avoids (same_place p) ts ≡ true)
 stands_or_not p [] = inr refl
 stands_or_not p (t ∷ ts) = go (same_place p (place_of t)) (stands_or_not p ts)
   where
@@ -75,17 +75,17 @@ stands_or_not p (t ∷ ts) = go (same_place p (place_of t)) (stands_or_not p ts)
     go true o = inl refl
     go false o = o
 
-avoided_so : (p : Place) (ts : List Token) → stands_among ts p ≡ false → avoids (same_place p) ts ≡ true
+pub avoided_so : (p : Place) (ts : List Token) → stands_among ts p ≡ false → avoids (same_place p) ts ≡ true
 avoided_so p ts h = elim (stands_or_not p ts) [ inl e ↦ absurd (let no : true ≡ false = sym e ∙ h in cc) | inr e ↦ e ]
 
-not_among : (p : Place) (ts : List Token) → avoids (same_place p) ts ≡ true → stands_among ts p ≡ false
+pub not_among : (p : Place) (ts : List Token) → avoids (same_place p) ts ≡ true → stands_among ts p ≡ false
 not_among p ts h = go (stands_among ts p) refl
   where
     go : (b : Bool) → stands_among ts p ≡ b → b ≡ false
     go true e = absurd (stands_so p ts e h)
     go false e = refl
 
-heads_avoided : (at : Place → Bool) (ts : List Token) → avoids at ts ≡ true → avoids at (heads ts) ≡ true
+pub heads_avoided : (at : Place → Bool) (ts : List Token) → avoids at ts ≡ true → avoids at (heads ts) ≡ true
 heads_avoided at [] h = refl
 heads_avoided at (t ∷ ts) h = go (is_layout_kind (kind_of t)) (heads_avoided at ts (and_right (not (at (place_of t))) (avoids at ts) h))
   where
@@ -94,11 +94,11 @@ heads_avoided at (t ∷ ts) h = go (is_layout_kind (kind_of t)) (heads_avoided a
     go false r = both (not (at (place_of t))) (avoids at (heads ts)) (and_left (not (at (place_of t))) (avoids at ts) h) r
 
 -- a place where no token of the front stands
-abbrev last_line : List Token → ℕ
+abbrev pub last_line : List Token → ℕ
 last_line [] = 0
 last_line (t ∷ ts) = max (place_of t).line (last_line ts)
 
-abbrev beyond : ℕ → Place
+abbrev pub beyond : ℕ → Place
 beyond n = record { «module» = 0; line = suc n; column = 1 }
 
 other_line : (p q : Place) → p.line < q.line → same_place p q ≡ false
@@ -112,7 +112,7 @@ stands_before p (t ∷ ts) h = go (same_place p (place_of t)) refl h (λ k. stan
     go true e k again = let same : p.line ≡ (place_of t).line = grind arith in omega arith
     go false e k again = let r = again k in omega arith
 
-apart_from : (p : Place) (ts : List Token) → stands_among ts p ≡ true → same_place p (beyond (last_line ts)) ≡ false
+pub apart_from : (p : Place) (ts : List Token) → stands_among ts p ≡ true → same_place p (beyond (last_line ts)) ≡ false
 apart_from p ts h = let r = stands_before p ts h in other_line p (beyond (last_line ts)) (omega arith)
 
 -- with a module that begins with the front

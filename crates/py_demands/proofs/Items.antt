@@ -1,5 +1,5 @@
 -- An item that is read of a tuple, in the modules in which the tuple is read as a whole and in those that assign to it.
-use Rattle.std.proofs.Common.{◌≡◌, ℕ, zero, suc, ◌≤◌, Bool, true, false, not, ◌&&◌, List, [], ◌∷◌, ◌++◌, map, length, Some, ◌⊎◌, inl, inr, refl, sym, ap, ◌∙◌, subst, append_assoc, arith}
+use Rattle.std.proofs.Common.{◌≡◌, ℕ, zero, suc, ◌≤◌, Bool, true, false, not, ◌&&◌, List, [], ◌∷◌, ◌++◌, map, length, Option, Some, ◌⊎◌, inl, inr, refl, sym, ap, ◌∙◌, subst, append_assoc, arith}
 use Rattle.grammars.specs.Grammar.{Tok, Non, Do}
 use Rattle.grammars.specs.Derivation.{Derives, Yields}
 use Rattle.grammars.proofs.Bools.{and_left, and_right, both}
@@ -31,11 +31,14 @@ use Rattle.py_demands.specs.AtMost.{AreAtMost}
 use Rattle.py_demands.specs.Bound.{standing}
 use Rattle.py_demands.specs.Least.{Ask, AtLeast, OpenAtLeast}
 use Rattle.py_demands.specs.Turned.{AreTurned}
-use Rattle.py_demands.specs.Aims.{Aim, Simply, Targets, Target}
-use Rattle.py_demands.specs.Aimed.{AreAimed, ItemLaw}
+use Rattle.py_demands.specs.Aims.{Aim, Simply, Targets, Target, MayTarget, Never, aimed, may_aim_first, are_aimable}
+use Rattle.py_demands.specs.Readings.{has_never}
+use Rattle.py_demands.specs.Aimed.{AreAimed, ItemAsks, ItemLaw}
+use Rattle.py_fronts.specs.AtFront.{AtFront}
+use Rattle.py_syntax.specs.Grammar.{IsModule}
 use Rattle.py_demands.proofs.EffectsTied.{tied}
 use Rattle.py_demands.proofs.Turned.{turned_before}
-use Rattle.py_demands.proofs.Bounded.{stands_before, stands_behind, bounded}
+use Rattle.py_demands.proofs.Bounded.{Bounds, stands_before, stands_behind, bounded}
 use Rattle.py_demands.proofs.Lower.{whole_stands}
 
 -- where the first symbols end
@@ -143,20 +146,23 @@ item_either n qs (entry (ExprShape f k) b ∷ entry (ExprShape (TupleForm u) fal
     go (InsideAssigned i ∷ ds) m h t = absurd h.0
 item_either n qs es new events ds e m h t = no_effect e
 
-abbrev Outcome : Parts → Body → List Token → List Ask → List Aim → Type 0
-Outcome v body more asks aims =
-    (ds : List Demand) × (length ds ≡ length (entries_of v)) × (AreAtMost asks ds ⊎ AreAimed aims (entries_of v) ds) × AreTurned (entries_of v) ds
+-- the demands of a module, by what holds of those that turn the tuple into targets
+abbrev pub Outcome : Parts → Body → List Token → List Ask → (List Demand → Type 0) → Type 0
+Outcome v body more asks Turns =
+    (ds : List Demand) × (length ds ≡ length (entries_of v)) × (AreAtMost asks ds ⊎ Turns ds) × AreTurned (entries_of v) ds
     × ((at : Place → Bool) → (standing at v ds ≤ body_depth at body) × (avoids at more ≡ true → body_depth at body ≤ standing at v ds))
 
-pub item_law : ItemLaw
-item_law front more item rest v body i f m =
+item_read : (front more : List Token) (item rest : List Symbol) (v : Parts) (body : Body) (i : ItemAsks item rest) (f : AtFront front [] (item ++ Do AddItem ∷ rest) v) → IsModule body (front ++ more) → (Turns : List Demand → Type 0)
+    → ((s : Split item (Do AddItem ∷ rest) v (finished body) more) (ds : List Demand) → length ds ≡ length (entries_of s.between) → AreAimed (Target i.above ∷ Targets i.above ∷ map Simply i.below) (entries_of s.between) ds
+    → (b : Bounds item v s.between s.first ds) → Turns b.demands) → Outcome v body more i.asks Turns
+item_read front more item rest v body i f m Turns turns =
     let y = (completion_law front (item ++ Do AddItem ∷ rest) v f).0 more body m in
     at_item (split y.0 item (Do AddItem ∷ rest) v (finished body) more f.events f.fit f.put f.begun y.1)
   where
-    at_item : Split item (Do AddItem ∷ rest) v (finished body) more → Outcome v body more i.asks i.aims
+    at_item : Split item (Do AddItem ∷ rest) v (finished body) more → Outcome v body more i.asks Turns
     at_item s = go s.there.0 s.there.1
       where
-        go : (count : ℕ) → Derives table count (Do AddItem ∷ rest) s.between s.last (finished body) → Outcome v body more i.asks i.aims
+        go : (count : ℕ) → Derives table count (Do AddItem ∷ rest) s.between s.last (finished body) → Outcome v body more i.asks Turns
         go zero d = absurd d
         go (suc count) d =
             let kept = effects_kept AddItem s.between (effect s.fit.0 s.fit.1) s.fit.2 in
@@ -172,7 +178,7 @@ item_law front more item rest v body i f m =
               b.many,
               elim either [
                 | inl w ↦ inl (b.no_less (AtLeast (suc i.above) ∷ AtLeast i.above ∷ i.below) i.asks w i.askable i.asks_are)
-                | inr w ↦ inr (b.aims_met (Target i.above ∷ Targets i.above ∷ map Simply i.below) i.aims w i.aimable i.aims_are)
+                | inr w ↦ inr (turns s (asked_before AddItem r.demands) (t.2 many) w b)
               ],
               b.turned (turned_before AddItem (entries_of s.between) s.fit.0 s.fit.1 r.demands s.fit.2 turned),
               λ at. (
@@ -185,3 +191,39 @@ item_law front more item rest v body i f m =
                     let three = r.stand_so at p.1 in omega arith,
               ),
             )
+
+pub item_law : ItemLaw
+item_law front more item rest v body i f m =
+    item_read front more item rest v body i f m (AreAimed i.aims (entries_of v)) (λ s ds many w b. b.aims_met (Target i.above ∷ Targets i.above ∷ map Simply i.below) i.aims w i.aimable i.aims_are)
+
+never_so : (aims : List Aim) (es : List Entry) (ds : List Demand) → has_never aims ≡ true → AreAimed aims es ds → ⊥
+never_so [] es ds h k = absurd (cc)
+never_so (aim ∷ aims) [] ds h k = k
+never_so (aim ∷ aims) (e ∷ es) [] h k = k
+never_so (Never ∷ aims) (e ∷ es) (d ∷ ds) h k = k.0
+never_so (Simply q ∷ aims) (e ∷ es) (d ∷ ds) h k = never_so aims es ds h k.1
+never_so (Targets n ∷ aims) (e ∷ es) (d ∷ ds) h k = never_so aims es ds h k.1
+never_so (Target n ∷ aims) (e ∷ es) (d ∷ ds) h k = never_so aims es ds h k.1
+never_so (MayTarget n ∷ aims) (e ∷ es) (d ∷ ds) h k = never_so aims es ds h k.1
+
+aimable_last : (these symbols : List Symbol) (o : Option (List Aim)) → are_aimable (these ++ symbols) o ≡ true → are_aimable symbols o ≡ true
+aimable_last [] symbols o h = h
+aimable_last (Tok k ∷ these) symbols o h = aimable_last these symbols o h
+aimable_last (Do a ∷ these) symbols o h = aimable_last these symbols o h
+aimable_last (Non x ∷ these) symbols o h = aimable_last these symbols o (and_right (may_aim_first x (aimed (these ++ symbols) o)) (are_aimable (these ++ symbols) o) h)
+
+-- where something in the item can't be a target, the tuple is read as a whole
+pub never_law : (front more : List Token) (item rest these those : List Symbol) (v : Parts) (body : Body) (i : ItemAsks item rest) (aims : List Aim) → item ≡ these ++ those
+    → aimed those (Some (Target i.above ∷ Targets i.above ∷ map Simply i.below)) ≡ Some aims → has_never aims ≡ true
+    → AtFront front [] (item ++ Do AddItem ∷ rest) v → IsModule body (front ++ more) → Outcome v body more i.asks (λ ds. ⊥)
+never_law front more item rest these those v body i aims is e never f m = item_read front more item rest v body i f m (λ ds. ⊥) turns
+  where
+    turns : (s : Split item (Do AddItem ∷ rest) v (finished body) more) (ds : List Demand) → length ds ≡ length (entries_of s.between)
+        → AreAimed (Target i.above ∷ Targets i.above ∷ map Simply i.below) (entries_of s.between) ds → Bounds item v s.between s.first ds → ⊥
+    turns s ds many w b =
+        let fit : Fit (these ++ those) (entries_of v) = subst (λ (l : List Symbol). Fit l (entries_of v)) is (first_fit item (Do AddItem ∷ rest) (entries_of v) f.fit) in
+        let d : Derives table s.here.0 (these ++ those) v s.first s.between = subst (λ (l : List Symbol). Derives table s.here.0 l v s.first s.between) is s.here.1 in
+        let t = split s.here.0 these those v s.between s.first f.events fit f.put f.begun d in
+        let c = bounded t.there.0 those t.between s.between t.last t.events ds t.fit t.put t.begun t.there.1 many in
+        let may = aimable_last these those (Some (Target i.above ∷ Targets i.above ∷ map Simply i.below)) (subst (λ (l : List Symbol). are_aimable l (Some (Target i.above ∷ Targets i.above ∷ map Simply i.below)) ≡ true) is i.aimable) in
+        never_so aims (entries_of t.between) c.demands never (c.aims_met (Target i.above ∷ Targets i.above ∷ map Simply i.below) aims w may e)

@@ -26,3 +26,14 @@ mod Paired
 mod TurnedPaired
 mod DemandVectors
 mod TargetVectors
+mod FewOpen
+mod ReadySteps
+mod ReadingsLow
+mod Passing
+mod TargetsLeft
+mod ReadSettled
+mod BothFirst
+mod BothFound
+mod Shut
+mod ClosedForms
+mod ItemTurned

@@ -1,8 +1,9 @@
 -- Each nonterminal is closed by one of its rows, which asks what it is said to.
-use Rattle.std.proofs.Common.{◌≡◌, List, ◌∷◌, ◌++◌, map, Some, inl, inr, refl, true}
+use Rattle.std.proofs.Common.{◌≡◌, ℕ, suc, List, ◌∷◌, ◌++◌, map, Some, inl, inr, refl, true}
 use Rattle.grammars.specs.Grammar.{IsRow}
-use Rattle.grammars.specs.Sets.{are_below, have_specimens}
+use Rattle.grammars.specs.Sets.{Sets, are_below, have_specimens}
 use Rattle.py_syntax.specs.Table.{Nonterminal, row, rows, table, sets, Module, TopStatement, Statements, Statement, Compound, Otherwise, Suite, Handler, HandlerAlias, MoreHandlers, QualifiedName, QualifiedNameTail, Definition, ParameterList, ParameterNext, ParameterItem, ParameterDefault, ClassDefinition, ClassBase, BaseList, ClassSuite, Member, Members, Brief, ImportStatement, ImportItem, ImportAlias, ImportNext, FromItem, FromNext, Line, LineTail, LineMore, Small, SmallTail, AssignTail, Returned, GlobalNext, AssertMessage, DeletedTail, DeletedAttribute, DeletedEnd, DeletedSubscript, DeletedSubscriptTail, Binding, BindingTail, BindingMore, BindingNext, ExpressionList, ExpressionListTail, ItemMore, ItemNext, Expression, ExpressionTail, OrTest, OrTail, OrMore, AndTest, AndTail, AndMore, NotTest, Comparison, ComparisonTail, ComparisonMore, ComparisonSign, IsTail, OrExpr, OrExprTail, XorExpr, XorExprTail, AndExpr, AndExprTail, ShiftExpr, ShiftTail, Sum, SumTail, Product, ProductTail, Factor, PowerExpr, PowerTail, Primary, PrimaryTail, AttributeTail, Subscription, SubscriptionTail, Upper, Arguments, ArgumentTail, KeywordNext, KeywordMore, PlainArguments, PlainArgumentTail, Atom, Parenthesised, ParenthesisedTail, Bracketed, BracketedTail, Braced, BracedTail, PairNext, PairMore, Comprehension, Conditions, Comprehensions, AnyName}
+use Rattle.py_syntax.specs.Token.{Token}
 use Rattle.py_nesting.specs.Walk.{Demand}
 use Rattle.py_demands.specs.Roles.{asked_by}
 use Rattle.py_demands.specs.Closing.{closing, asks_exactly, exactly}
@@ -92,7 +93,7 @@ is_row PowerTail = inl refl
 is_row Primary = inl refl
 is_row PrimaryTail = inl refl
 is_row AttributeTail = inl refl
-is_row Subscription = inr (inl refl)
+is_row Subscription = inl refl
 is_row SubscriptionTail = inl refl
 is_row Upper = inl refl
 is_row Arguments = inl refl
@@ -101,7 +102,7 @@ is_row KeywordNext = inl refl
 is_row KeywordMore = inl refl
 is_row PlainArguments = inl refl
 is_row PlainArgumentTail = inl refl
-is_row Atom = inr (inl refl)
+is_row Atom = inl refl
 is_row Parenthesised = inl refl
 is_row ParenthesisedTail = inl refl
 is_row Bracketed = inl refl
@@ -223,7 +224,16 @@ closes Conditions d rest = refl
 closes Comprehensions d rest = refl
 closes AnyName d rest = refl
 
-pub closed_below : (x : Nonterminal) → are_below sets (sets.rank x) (closing x) ≡ true
+-- how deep the closing rows go
+abbrev pub closing_rank : Nonterminal → ℕ
+closing_rank AnyName = 0
+closing_rank Subscription = 50
+closing_rank x = suc (sets.rank x)
+
+abbrev pub closing_sets : Sets Nonterminal Token
+closing_sets = record { nullable = sets.nullable; first = sets.first; follow = sets.follow; rank = closing_rank; specimen = sets.specimen }
+
+pub closed_below : (x : Nonterminal) → are_below closing_sets (closing_rank x) (closing x) ≡ true
 closed_below Module = refl
 closed_below _ = refl
 

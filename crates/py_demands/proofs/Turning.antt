@@ -96,12 +96,12 @@ ends_so (suc n) p (Non x ∷ symbols) v es h e = go (ends n p (closing x) (entri
     go (Some fs) o k closes again = let c = closes fs o in ends_row p x symbols v fs es c (again c.left (ap (ends (suc n) p symbols) c.same ∙ k))
 
 -- the row that assigns
-turning_row : (x : Nonterminal) → is_tail x ≡ true → IsRow (guarded are_targets_last (turning x)) (rows x) × (have_specimens table sets (turning x) ≡ true)
+pub turning_row : (x : Nonterminal) → is_tail x ≡ true → IsRow (guarded are_targets_last (turning x)) (rows x) × (have_specimens table sets (turning x) ≡ true)
 turning_row SmallTail h = (inr (inl refl), refl)
 turning_row AssignTail h = (inr (inl refl), refl)
 turning_row x h = absurd (cc)
 
-specimens_first : (these symbols : List Symbol) → have_specimens table sets (these ++ symbols) ≡ true → have_specimens table sets these ≡ true
+pub specimens_first : (these symbols : List Symbol) → have_specimens table sets (these ++ symbols) ≡ true → have_specimens table sets these ≡ true
 specimens_first [] symbols h = refl
 specimens_first (Tok k ∷ these) symbols h = both _ _ (and_left _ _ h) (specimens_first these symbols (and_right _ _ h))
 specimens_first (Non x ∷ these) symbols h = specimens_first these symbols h

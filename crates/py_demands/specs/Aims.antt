@@ -2,7 +2,7 @@
 use Rattle.std.specs.Prelude.{ℕ, suc, Bool, true, false, ◌&&◌, if◌then◌else◌, List, [], ◌∷◌, ◌++◌, map, Option, Some, None}
 use Rattle.grammars.specs.Grammar.{Tok, Non, Do}
 use Rattle.py_syntax.specs.Build.{Action, Drop, MakeLeaf, MakeAttribute, MakeSubscript}
-use Rattle.py_syntax.specs.Table.{Symbol, Nonterminal, ExpressionTail, OrTail, OrMore, AndTail, AndMore, ComparisonTail, ComparisonMore, OrExprTail, XorExprTail, AndExprTail, ShiftTail, SumTail, ProductTail, PowerTail, ExpressionListTail, ItemMore, ItemNext, Arguments, KeywordNext, KeywordMore, PlainArguments, Upper, PairNext, PairMore, Conditions, Comprehensions, PrimaryTail, AttributeTail, ArgumentTail, PlainArgumentTail, Parenthesised, ParenthesisedTail, Bracketed, BracketedTail, Braced, BracedTail, Comprehension}
+use Rattle.py_syntax.specs.Table.{Symbol, Nonterminal, ExpressionTail, OrTail, OrMore, AndTail, AndMore, ComparisonTail, ComparisonMore, OrExprTail, XorExprTail, AndExprTail, ShiftTail, SumTail, ProductTail, PowerTail, ExpressionListTail, ItemMore, ItemNext, Arguments, KeywordNext, KeywordMore, PlainArguments, Upper, PairNext, PairMore, Conditions, Comprehensions, PrimaryTail, AttributeTail, ArgumentTail, PlainArgumentTail, Parenthesised, ParenthesisedTail, Bracketed, BracketedTail, Braced, BracedTail, Comprehension, IsTail, BindingTail, BindingMore, BindingNext}
 use Rattle.py_demands.specs.Roles.{Role, Lost, roles}
 use Rattle.py_demands.specs.Least.{Ask, NoNode, AtLeast, OpenAtLeast, ask_by, Least, As, ask_least, low, may_ask}
 
@@ -86,6 +86,10 @@ way BracketedTail = Differs
 way Braced = Differs
 way BracedTail = Differs
 way Comprehension = Differs
+way IsTail = Differs
+way BindingTail = Keeps
+way BindingMore = Keeps
+way BindingNext = Keeps
 way x = Makes
 
 abbrev pub gone : Way → Aim → Aim

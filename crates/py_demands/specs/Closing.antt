@@ -1,9 +1,9 @@
--- The shortest ways on: each symbol is closed by a row without a guard, and what that asks of the parts before it.
+-- Short ways on, with targets where there may be some: each symbol is closed by a row without a guard, and what that asks of the parts before it.
 use Rattle.std.specs.Prelude.{List, [], ◌∷◌, ◌++◌, map, Option, Some, None}
 use Rattle.grammars.specs.Grammar.{Tok, Non, Do}
 use Rattle.py_syntax.specs.Tree.{Is, Less}
-use Rattle.py_syntax.specs.Build.{Action, AddArgument, AddImported, AddLoop, AddParameter, AddStmt, BeginBody, BeginClass, BeginDef, BeginImport, BeginLoop, BeginTry, Catch, CatchAll, Drop, EndClass, EndDef, MakeAssert, MakeAssign, MakeClassName, MakeEmptyDict, MakeEmptyList, MakeEmptyTuple, MakeExprStmt, MakeLeaf, MakeListOfOne, MakeLoopName, MakeParenthesis, MakePass, MakeReturn, MakeSetOfOne, MakeSign, MakeSlice, MakeSubscript}
-use Rattle.py_syntax.specs.Table.{Symbol, Nonterminal, a_newline, a_number, ascii_name, the_class, the_close_brace, the_close_bracket, the_close_parenthesis, the_colon, the_def, the_except, the_for, the_import, the_in, the_less, the_open_bracket, the_open_parenthesis, the_pass, the_try, Module, TopStatement, Statements, Statement, Compound, Otherwise, Suite, Handler, HandlerAlias, MoreHandlers, QualifiedName, QualifiedNameTail, Definition, ParameterList, ParameterNext, ParameterItem, ParameterDefault, ClassDefinition, ClassBase, BaseList, ClassSuite, Member, Members, Brief, ImportStatement, ImportItem, ImportAlias, ImportNext, FromItem, FromNext, Line, LineTail, LineMore, Small, SmallTail, AssignTail, Returned, GlobalNext, AssertMessage, DeletedTail, DeletedAttribute, DeletedEnd, DeletedSubscript, DeletedSubscriptTail, Binding, BindingTail, BindingMore, BindingNext, ExpressionList, ExpressionListTail, ItemMore, ItemNext, Expression, ExpressionTail, OrTest, OrTail, OrMore, AndTest, AndTail, AndMore, NotTest, Comparison, ComparisonTail, ComparisonMore, ComparisonSign, IsTail, OrExpr, OrExprTail, XorExpr, XorExprTail, AndExpr, AndExprTail, ShiftExpr, ShiftTail, Sum, SumTail, Product, ProductTail, Factor, PowerExpr, PowerTail, Primary, PrimaryTail, AttributeTail, Subscription, SubscriptionTail, Upper, Arguments, ArgumentTail, KeywordNext, KeywordMore, PlainArguments, PlainArgumentTail, Atom, Parenthesised, ParenthesisedTail, Bracketed, BracketedTail, Braced, BracedTail, PairNext, PairMore, Comprehension, Conditions, Comprehensions, AnyName}
+use Rattle.py_syntax.specs.Build.{Action, AddArgument, AddImported, AddLoop, AddParameter, AddStmt, BeginBody, BeginClass, BeginDef, BeginImport, BeginLoop, BeginTry, Catch, CatchAll, Drop, EndClass, EndDef, MakeAssert, MakeAssign, MakeClassName, MakeEmptyDict, MakeEmptyList, MakeEmptyTuple, MakeExprStmt, MakeLeaf, MakeListOfOne, MakeLoopName, MakeParenthesis, MakePass, MakeReturn, MakeSetOfOne, MakeSign, MakeSubscript}
+use Rattle.py_syntax.specs.Table.{Symbol, Nonterminal, a_newline, ascii_name, the_class, the_close_brace, the_close_bracket, the_close_parenthesis, the_colon, the_def, the_except, the_for, the_import, the_in, the_less, the_open_bracket, the_open_parenthesis, the_pass, the_try, Module, TopStatement, Statements, Statement, Compound, Otherwise, Suite, Handler, HandlerAlias, MoreHandlers, QualifiedName, QualifiedNameTail, Definition, ParameterList, ParameterNext, ParameterItem, ParameterDefault, ClassDefinition, ClassBase, BaseList, ClassSuite, Member, Members, Brief, ImportStatement, ImportItem, ImportAlias, ImportNext, FromItem, FromNext, Line, LineTail, LineMore, Small, SmallTail, AssignTail, Returned, GlobalNext, AssertMessage, DeletedTail, DeletedAttribute, DeletedEnd, DeletedSubscript, DeletedSubscriptTail, Binding, BindingTail, BindingMore, BindingNext, ExpressionList, ExpressionListTail, ItemMore, ItemNext, Expression, ExpressionTail, OrTest, OrTail, OrMore, AndTest, AndTail, AndMore, NotTest, Comparison, ComparisonTail, ComparisonMore, ComparisonSign, IsTail, OrExpr, OrExprTail, XorExpr, XorExprTail, AndExpr, AndExprTail, ShiftExpr, ShiftTail, Sum, SumTail, Product, ProductTail, Factor, PowerExpr, PowerTail, Primary, PrimaryTail, AttributeTail, Subscription, SubscriptionTail, Upper, Arguments, ArgumentTail, KeywordNext, KeywordMore, PlainArguments, PlainArgumentTail, Atom, Parenthesised, ParenthesisedTail, Bracketed, BracketedTail, Braced, BracedTail, PairNext, PairMore, Comprehension, Conditions, Comprehensions, AnyName}
 use Rattle.py_nesting.specs.Outlines.{Plain, Bracket}
 use Rattle.py_nesting.specs.Walk.{Demand, Nothing}
 use Rattle.py_demands.specs.Roles.{Below, Apart, Role, Lost, Head, Through, Kept, asked_by, roles}
@@ -93,7 +93,7 @@ closing PowerTail = []
 closing Primary = Non Atom ∷ Non PrimaryTail ∷ []
 closing PrimaryTail = []
 closing AttributeTail = []
-closing Subscription = the_colon ∷ Do MakeSlice ∷ Non Upper ∷ []
+closing Subscription = Non Expression ∷ Non SubscriptionTail ∷ []
 closing SubscriptionTail = the_close_bracket ∷ Do MakeSubscript ∷ []
 closing Upper = the_close_bracket ∷ Do Drop ∷ []
 closing Arguments = []
@@ -102,7 +102,7 @@ closing KeywordNext = []
 closing KeywordMore = []
 closing PlainArguments = []
 closing PlainArgumentTail = Do AddArgument ∷ []
-closing Atom = a_number ∷ Do MakeLeaf ∷ []
+closing Atom = Non AnyName ∷ Do MakeLeaf ∷ []
 closing Parenthesised = the_close_parenthesis ∷ Do MakeEmptyTuple ∷ []
 closing ParenthesisedTail = the_close_parenthesis ∷ Do MakeParenthesis ∷ []
 closing Bracketed = the_close_bracket ∷ Do MakeEmptyList ∷ []

@@ -19,3 +19,4 @@ pub mod ItemSteps
 pub mod TurnedPaired
 pub mod Ready
 pub mod Readings
+pub mod BothFirst

@@ -1,5 +1,5 @@
 -- The two readings of the parts behind a front: as they stand, and with a tuple that is assigned to.
-use Rattle.std.specs.Prelude.{◌≡◌, ℕ, suc, ◌<◌, Bool, true, false, ◌||◌, if◌then◌else◌, List, [], ◌∷◌, map, Option, Some, None, ◌⊎◌}
+use Rattle.std.specs.Prelude.{◌≡◌, suc, Bool, true, false, if◌then◌else◌, List, [], ◌∷◌, map, Option, Some, None, ◌⊎◌}
 use Rattle.grammars.specs.Grammar.{Do}
 use Rattle.py_tokens.specs.Token.{Place}
 use Rattle.py_syntax.specs.Token.{Token}
@@ -93,8 +93,8 @@ ReadingLaw =
     (front : List Token) (symbols : List Symbol) (v : Parts) (b : Behind front [] symbols v) → Ready symbols [] → acts_first symbols ≡ false
     → InModules front symbols (λ at body. IsNoDeeper at v b.demands body ⊎ ((ws : List Demand) × (targets_reading symbols (entries_of v) ≡ Some ws) × IsNoDeeper at v ws body))
 
--- And there is a module for each of both.
-abbrev pub ReadLaw : Type 0
-ReadLaw =
-    (front : List Token) (symbols : List Symbol) (v : Parts) (ws : List Demand) → Behind front [] symbols v → Ready symbols [] → acts_first symbols ≡ false
-    → targets_reading symbols (entries_of v) ≡ Some ws → (p : Place) → IsReached front v ws p
+-- And where no item is read of a tuple that may be assigned to, there is a module for the one with targets.
+abbrev pub SettledReadLaw : Type 0
+SettledReadLaw =
+    (front : List Token) (symbols : List Symbol) (v : Parts) (asks : List Ask) (ws : List Demand) → Behind front [] symbols v → Ready symbols [] → acts_first symbols ≡ false
+    → reading symbols ≡ Some (Settled asks) → targets_reading symbols (entries_of v) ≡ Some ws → (p : Place) → IsReached front v ws p

@@ -1,11 +1,10 @@
 -- How the symbols behind a front stand while the table's run goes over it.
-use Rattle.std.specs.Prelude.{◌≡◌, ℕ, Bool, true, false, not, ◌&&◌, if◌then◌else◌, List, [], ◌∷◌, ◌++◌, Option, Some, None, ◌⊎◌}
-use Rattle.grammars.specs.Grammar.{Tok, Non, Do, allows, Row, IsRow, sight}
-use Rattle.grammars.specs.Run.{pick}
+use Rattle.std.specs.Prelude.{◌≡◌, ℕ, Bool, true, false, not, ◌&&◌, if◌then◌else◌, List, [], ◌∷◌, ◌++◌, Option, Some, ◌⊎◌}
+use Rattle.grammars.specs.Grammar.{Tok, Non, Do, Row, IsRow}
 use Rattle.py_syntax.specs.Token.{Token}
 use Rattle.py_syntax.specs.Build.{Parts, Action, MakeLeaf, MakeTuple, AddItem, MakeTargets, AddTargets}
 use Rattle.py_syntax.specs.Laws.{goal}
-use Rattle.py_syntax.specs.Table.{Symbol, Nonterminal, rows, table, sets, AnyName, Module, TopStatement, Statements, Statement, Compound, Otherwise, Suite, Handler, HandlerAlias, MoreHandlers, QualifiedName, QualifiedNameTail, Definition, ParameterList, ParameterNext, ParameterItem, ParameterDefault, ClassDefinition, ClassBase, BaseList, ClassSuite, Member, Members, Brief, ImportStatement, ImportItem, ImportAlias, ImportNext, FromItem, FromNext, Line, LineTail, LineMore, Small, SmallTail, AssignTail, Returned, GlobalNext, AssertMessage, DeletedTail, DeletedAttribute, DeletedEnd, DeletedSubscript, DeletedSubscriptTail}
+use Rattle.py_syntax.specs.Table.{Symbol, Nonterminal, rows, AnyName, Module, TopStatement, Statements, Statement, Compound, Otherwise, Suite, Handler, HandlerAlias, MoreHandlers, QualifiedName, QualifiedNameTail, Definition, ParameterList, ParameterNext, ParameterItem, ParameterDefault, ClassDefinition, ClassBase, BaseList, ClassSuite, Member, Members, Brief, ImportStatement, ImportItem, ImportAlias, ImportNext, FromItem, FromNext, Line, LineTail, LineMore, Small, SmallTail, AssignTail, Returned, GlobalNext, AssertMessage, DeletedTail, DeletedAttribute, DeletedEnd, DeletedSubscript, DeletedSubscriptTail}
 use Rattle.py_demands.specs.Aimed.{ItemAsks}
 use Rattle.py_demands.specs.Aims.{Aim, Target, aimed}
 use Rattle.py_demands.specs.Behind.{Behind}

@@ -3,17 +3,21 @@
 //! `specs/Roles.antt` says of each action what it asks of the parts that it takes, by what is asked of the part that it leaves, and
 //! `specs/Least.antt` what each nonterminal asks at least; `specs/Closing.antt` is one way to close the symbols. A tuple that may yet be
 //! assigned to is read in two ways: `specs/Aims.antt` says what is asked of an item among targets, `specs/Turning.antt` how the tuple is
-//! assigned to, and `specs/Decided.antt` that no module has a node less deep than one of both ways. The functions below have no body: they
-//! carry laws.
+//! assigned to, and `specs/Decided.antt` that no module has a node less deep than one of both ways. `specs/Ready.antt` says how the symbols of a
+//! run stand, from which `specs/Readings.antt` computes the reading with targets, and `specs/BothFirst.antt` finds by both readings where a front
+//! is nested too deep first. The functions below have no body: they carry laws.
 #![tactic(auto)]
 
 ghost use Rattle.py_demands.specs.Agreed.{LeastLaw};
 ghost use Rattle.py_demands.specs.Aimed.{ItemLaw};
 ghost use Rattle.py_demands.specs.Bound.{LowerLaw, ClosingLaw};
+ghost use Rattle.py_demands.specs.BothFirst.{BothFirstLaw, BothFoundLaw};
 ghost use Rattle.py_demands.specs.Decided.{EitherLaw, WholeLaw, BothLaw};
 ghost use Rattle.py_demands.specs.FrontDepth.{FirstLaw};
 ghost use Rattle.py_demands.specs.ItemSteps.{ItemStepsLaw};
 ghost use Rattle.py_demands.specs.Paired.{PairedLaw, SteadyLaw, AgreementLaw};
+ghost use Rattle.py_demands.specs.Readings.{ReadingLaw, SettledReadLaw};
+ghost use Rattle.py_demands.specs.Ready.{ReadyLaw};
 ghost use Rattle.py_demands.specs.Steps.{StepsLaw};
 ghost use Rattle.py_demands.specs.TurnedPaired.{TurnedPairedLaw, BothPairsLaw};
 ghost use Rattle.py_demands.specs.Turned.{TurnedLaw};
@@ -116,4 +120,33 @@ pub fn a_target_has_the_same_nodes()
 /// has more than 100 others above it stands at the first place where the front is nested too deep.
 pub fn the_first_node_too_deep_is_met()
     ensures law { FirstLaw }
+{}
+
+/// From the beginning, each step of the table's run over a front keeps the symbols so that one expression at most may be assigned to, and one item
+/// at most is read of it.
+pub fn a_run_reads_one_expression_that_may_be_assigned_to()
+    ensures law { ReadyLaw }
+{}
+
+/// In each module that begins with a front, a node stands no less deep than in one of the two readings: the one that closes the symbols, and the one
+/// that assigns to what may be targets.
+pub fn a_module_stands_no_less_deep_than_a_reading()
+    ensures law { ReadingLaw }
+{}
+
+/// Where no item is read of a tuple that may be assigned to, a module that begins with the front has the nodes behind it just as deep as the reading
+/// with targets asks.
+pub fn a_reading_with_targets_is_that_of_a_module()
+    ensures law { SettledReadLaw }
+{}
+
+/// Where each of two readings is that of a module that begins with a front, and no module has a node less deep than one of both, the first place where
+/// a node has more than 100 others above it in each of both that has one is the first where the front is nested too deep.
+pub fn the_first_node_too_deep_in_both_readings_is_met()
+    ensures law { BothFirstLaw }
+{}
+
+/// Where the tokens are in order, that place is found by going over them.
+pub fn the_first_node_too_deep_in_both_readings_is_found_by_tokens()
+    ensures law { BothFoundLaw }
 {}
