@@ -106,6 +106,9 @@ pub(crate) fn way_of(nonterminal: Nonterminal) -> Way
         | Nonterminal::PairMore
         | Nonterminal::Conditions
         | Nonterminal::Comprehensions => Way::Keeps,
+        Nonterminal::BindingTail | Nonterminal::BindingMore | Nonterminal::BindingNext => {
+            Way::Keeps
+        }
         Nonterminal::PrimaryTail | Nonterminal::AttributeTail => Way::Extends,
         Nonterminal::ArgumentTail
         | Nonterminal::PlainArgumentTail
@@ -115,7 +118,8 @@ pub(crate) fn way_of(nonterminal: Nonterminal) -> Way
         | Nonterminal::BracketedTail
         | Nonterminal::Braced
         | Nonterminal::BracedTail
-        | Nonterminal::Comprehension => Way::Differs,
+        | Nonterminal::Comprehension
+        | Nonterminal::IsTail => Way::Differs,
         _ => Way::Makes,
     }
 }
