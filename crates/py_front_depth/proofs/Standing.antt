@@ -26,7 +26,8 @@ use Rattle.py_table.proofs.SymbolStacks.{started}
 use Rattle.py_table.proofs.Turns.{after, sight_of_number, step_runs}
 use Rattle.py_depth.specs.PlainEntries.{entries_of, events_of}
 use Rattle.py_depth.specs.declared.nest.Nest.{Nest}
-use Rattle.py_front_depth.specs.Reaching.{acts_first, is_done, StandsFor, StandsHere}
+use Rattle.py_demands.specs.Readings.{acts_first}
+use Rattle.py_front_depth.specs.Reaching.{is_done, StandsFor, StandsHere}
 
 -- at the beginning nothing stands for nothing
 pub at_start : (front : List Token) (a b c : List SymbolKept) (nest : Nest) → a ≡ [] → b ≡ a ++ symbol.Expand nonterminal.Module ∷ [] → c ≡ b ++ symbol.Do action.BeginBody ∷ []

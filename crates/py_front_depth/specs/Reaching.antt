@@ -1,6 +1,5 @@
 -- Where the code's run stands behind a front.
-use Rattle.std.specs.Prelude.{◌≡◌, Bool, true, false, not, List, [], ◌∷◌, ◌++◌, Option, Some, None}
-use Rattle.grammars.specs.Grammar.{Do}
+use Rattle.std.specs.Prelude.{◌≡◌, Bool, false, not, List, [], ◌∷◌, ◌++◌, Option, Some, None}
 use Rattle.py_syntax.specs.Token.{Token}
 use Rattle.py_syntax.specs.Tree.{Body}
 use Rattle.py_syntax.specs.Build.{Parts}
@@ -10,15 +9,12 @@ use Rattle.py_nesting.specs.Outlines.{built}
 use Rattle.py_nesting.specs.Shapes as shapes
 use Rattle.py_nesting.specs.Shapes.{outlines_of}
 use Rattle.py_demands.specs.Behind.{Behind}
+use Rattle.py_demands.specs.Readings.{acts_first}
 use Rattle.py_table.specs.Steps.{stack_of}
 use Rattle.py_table.specs.declared.symbol.Symbol.{Symbol as SymbolKept}
 use Rattle.py_depth.specs.PlainEntries.{entries_of, events_of}
 use Rattle.py_depth.specs.declared.nest.Nest.{Nest}
 use Rattle.py_front_depth.specs.declared.reach.Reached.{Reached}
-
-abbrev pub acts_first : List Symbol → Bool
-acts_first (Do a ∷ symbols) = true
-acts_first symbols = false
 
 -- all is read, and no action comes next
 abbrev pub is_done : List Token → List Symbol → Bool

@@ -3,7 +3,8 @@
 ghost use Rattle.std.specs.Prelude.{ℕ, ◌≡◌, List, IfOk};
 ghost use Rattle.py_table.specs.PlainTokens.{plain_tokens};
 ghost use Rattle.py_table.specs.Steps.{stack_of};
-ghost use Rattle.py_front_depth.specs.Reaching.{acts_first, is_done, IsBehind};
+ghost use Rattle.py_demands.specs.Readings.{acts_first};
+ghost use Rattle.py_front_depth.specs.Reaching.{is_done, IsBehind};
 
 use py_depth::nest::Nest;
 use py_lexer::token::Token;

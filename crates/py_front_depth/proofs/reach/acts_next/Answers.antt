@@ -1,5 +1,5 @@
 use Rattle.std.proofs.Common.{sym, ap}
-use Rattle.py_front_depth.specs.Reaching.{acts_first}
+use Rattle.py_demands.specs.Readings.{acts_first}
 use Rattle.py_front_depth.proofs.Stacks.{stack_of-none}
 use Rattle.py_front_depth.proofs.reach.acts_next.Goals as goal
 
