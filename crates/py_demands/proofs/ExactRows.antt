@@ -42,7 +42,7 @@ symbol_frame (Do a) ds us cs e = action_frame a ds us cs e
 symbol_frame (Non x) [] us cs e = absurd (cc)
 symbol_frame (Non x) (d ∷ ds) us cs e = ap Some (sym (append_assoc (map (asked_by d) (asks_exactly x)) ds cs)) ∙ ap (λ (l : List Demand). Some (l ++ cs)) (same_Some _ us e)
 
-exactly_frame : (symbols : List Symbol) (ds us cs : List Demand) → exactly symbols (Some ds) ≡ Some us → exactly symbols (Some (ds ++ cs)) ≡ Some (us ++ cs)
+pub exactly_frame : (symbols : List Symbol) (ds us cs : List Demand) → exactly symbols (Some ds) ≡ Some us → exactly symbols (Some (ds ++ cs)) ≡ Some (us ++ cs)
 exactly_frame [] ds us cs e = ap (λ (l : List Demand). Some (l ++ cs)) (same_Some ds us e)
 exactly_frame (s ∷ symbols) ds us cs e = go (exactly symbols (Some ds)) refl e (λ rs h. exactly_frame symbols ds rs cs h)
   where

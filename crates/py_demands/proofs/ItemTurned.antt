@@ -30,7 +30,7 @@ use Rattle.py_demands.proofs.TurnedPaired.{turned_paired_law}
 use Rattle.py_demands.proofs.Turning.{turning_law, other_row_law}
 use Rattle.std.proofs.lemmas.Option.{same_Some}
 
-ends_joined : (n : ℕ) (p : Place) (these symbols : List Symbol) (es fs : List Entry) → ends n p these es ≡ Some fs → ends n p (these ++ symbols) es ≡ ends n p symbols fs
+pub ends_joined : (n : ℕ) (p : Place) (these symbols : List Symbol) (es fs : List Entry) → ends n p these es ≡ Some fs → ends n p (these ++ symbols) es ≡ ends n p symbols fs
 ends_joined n p [] symbols es fs e = ap (ends n p symbols) (same_Some es fs e)
 ends_joined n p (Tok k ∷ these) symbols es fs e = ends_joined n p these symbols _ fs e
 ends_joined n p (Do a ∷ these) symbols es fs e = go (effect_of a es) e (λ new k. ends_joined n p these symbols new fs k)
@@ -47,7 +47,7 @@ ends_joined (suc n) p (Non x ∷ these) symbols es fs e = go (ends n p (closing 
     go (Some new) k again = again new k
 
 -- the tuple behind the item
-abbrev tuple_targets : List Entry → Bool
+abbrev pub tuple_targets : List Entry → Bool
 tuple_targets [] = false
 tuple_targets (e ∷ es) = targets_last es
 

@@ -29,17 +29,17 @@ are_kind [] = true
 are_kind (c ∷ changes) = is_kind c && are_kind changes
 
 -- what goes below a tuple that may not be assigned to does as well
-abbrev is_good : Bool → Role → Bool
+abbrev pub is_good : Bool → Role → Bool
 is_good b Lost = true
 is_good b (Head l changes) = are_kind changes
 is_good b (Through (Below Tuple ∷ [])) = not b
 is_good b (Through changes) = are_kind changes
 
-abbrev are_good : Bool → List Role → Bool
+abbrev pub are_good : Bool → List Role → Bool
 are_good b [] = true
 are_good b (role ∷ these) = is_good b role && are_good b these
 
-all_good : (a : Action) (q : Ask) → settles a q ≡ true → are_good (is_open q) (roles a) ≡ true
+pub all_good : (a : Action) (q : Ask) → settles a q ≡ true → are_good (is_open q) (roles a) ≡ true
 all_good MakeTuple q h = both (not (is_open q)) true h refl
 all_good AddItem q h = both (not (is_open q)) true h refl
 all_good MakeTargets q h = absurd (cc)
@@ -86,7 +86,7 @@ tuple_paired (WithinAtLeast m) (Inside n) k h = h
 tuple_paired (OpenAtLeast m) (Whole n) k h = absurd (cc)
 tuple_paired q d k h = absurd h
 
-role_paired : (role : Role) (q : Ask) (d : Demand) → is_good (is_open q) role ≡ true → ArePaired q d → ArePaired (ask_by q role) (asked_by d role)
+pub role_paired : (role : Role) (q : Ask) (d : Demand) → is_good (is_open q) role ≡ true → ArePaired q d → ArePaired (ask_by q role) (asked_by d role)
 role_paired Lost q d k h = tt
 role_paired (Head l changes) q d k h = head_paired l (ask_all_changed changes q) (all_changed changes d) (changes_paired changes q d k h)
 role_paired (Through (Below Tuple ∷ [])) q d k h = tuple_paired q d k h
@@ -129,7 +129,7 @@ action_paired a qs asks ds demands k h e f = go (drops_or_both a) qs ds k h e f
         subst (λ (l : List Ask). AllPaired l demands) left (subst (AllPaired (map (ask_by q) (roles a) ++ qs)) right (roles_paired (roles a) q d qs ds (all_good a q k) h.0 h.1))
 
 -- what a nonterminal asks at least, and where it is closed
-abbrev is_alike : Least → Role → Bool
+abbrev pub is_alike : Least → Role → Bool
 is_alike (As Lost) Lost = true
 is_alike (As (Head Plain [])) (Head Plain []) = true
 is_alike (As (Head Bracket [])) (Head Bracket []) = true
@@ -140,12 +140,12 @@ is_alike (As (Through (Below Plain ∷ []))) (Through (Below Plain ∷ Apart ∷
 is_alike Opened (Through (Below Plain ∷ [])) = true
 is_alike l role = false
 
-abbrev are_alike : List Least → List Role → Bool
+abbrev pub are_alike : List Least → List Role → Bool
 are_alike [] [] = true
 are_alike (l ∷ ls) (role ∷ these) = is_alike l role && are_alike ls these
 are_alike ls these = false
 
-all_alike : (x : Nonterminal) → are_alike (low x) (asks_exactly x) ≡ true
+pub all_alike : (x : Nonterminal) → are_alike (low x) (asks_exactly x) ≡ true
 all_alike Module = refl
 all_alike _ = refl
 
@@ -163,7 +163,7 @@ apart_paired (WithinAtLeast m) (Inside n) h = h
 apart_paired (OpenAtLeast m) (Whole n) h = ap suc h
 apart_paired q d h = absurd h
 
-alike_paired : (l : Least) (role : Role) (q : Ask) (d : Demand) → is_alike l role ≡ true → ArePaired q d → ArePaired (ask_least q l) (asked_by d role)
+pub alike_paired : (l : Least) (role : Role) (q : Ask) (d : Demand) → is_alike l role ≡ true → ArePaired q d → ArePaired (ask_least q l) (asked_by d role)
 alike_paired (As Lost) Lost q d k h = tt
 alike_paired (As (Head Plain [])) (Head Plain []) q d k h = head_paired Plain q d h
 alike_paired (As (Head Bracket [])) (Head Bracket []) q d k h = head_paired Bracket q d h

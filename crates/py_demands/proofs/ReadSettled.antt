@@ -14,8 +14,8 @@ use Rattle.py_demands.specs.Aims.{Aim, Simply, Targets, Target, aims_symbol}
 use Rattle.py_demands.specs.Behind.{Behind}
 use Rattle.py_demands.specs.Closing.{asks_exactly, exactly_by, exactly_symbol, exactly_before, exactly}
 use Rattle.py_demands.specs.Least.{Ask, NoNode, AtLeast, WithinAtLeast, OpenAtLeast, ask_least, low, before_symbol, before, least}
-use Rattle.py_demands.specs.Paired.{ArePaired, AllPaired, is_open}
-use Rattle.py_demands.specs.Readings.{Reading, Settled, Among, has_never, among, reading_before, reading, of_ask, of_reading, SettledReadLaw}
+use Rattle.py_demands.specs.Paired.{ArePaired, AllPaired, is_open, are_settled}
+use Rattle.py_demands.specs.Readings.{Reading, Settled, Among, has_never, among, reading_before, reading, of_ask, of_reading, targets_reading, acts_first}
 use Rattle.py_demands.specs.Ready.{are_calm, is_inner, are_quiet, are_single, adds_to_open, adds_to_none, Itemed, Ready}
 use Rattle.py_demands.specs.Roles.{asked_by, roles}
 use Rattle.py_demands.specs.Turning.{is_tail, turning, IsReached}
@@ -151,7 +151,7 @@ tail_turned AssignTail q d qs ds us t o h k e = absurd h
 tail_turned x q d qs ds us t o h k e = absurd (cc)
 
 -- they are those of the reading
-turned_is : (qs : List Ask) (ds us : List Demand) → AllPairedTurned qs ds → AllPairedTurned qs us → ds ≡ us
+pub turned_is : (qs : List Ask) (ds us : List Demand) → AllPairedTurned qs ds → AllPairedTurned qs us → ds ≡ us
 turned_is [] [] [] h k = refl
 turned_is [] [] (u ∷ us) h k = absurd k
 turned_is [] (d ∷ ds) us h k = absurd h
@@ -230,7 +230,7 @@ abbrev pub opens_top : List Ask → Bool
 opens_top [] = true
 opens_top (q ∷ qs) = none_open qs
 
-last_so : (e : Entry) (es : List Entry) → targets_last (e ∷ []) ≡ true → targets_last (e ∷ es) ≡ true
+pub last_so : (e : Entry) (es : List Entry) → targets_last (e ∷ []) ≡ true → targets_last (e ∷ es) ≡ true
 last_so e es h = last_only e es ∙ h
 
 pub top_targets : (qs : List Ask) (es : List Entry) → opens_top qs ≡ true → open_targets qs es ≡ true → targets_last es ≡ true
@@ -250,112 +250,140 @@ one_on_top AssignTail (WithinAtLeast m) rs t o n = n
 one_on_top AssignTail (OpenAtLeast m) rs t o n = n
 one_on_top x q rs t o n = absurd (cc)
 
+-- what is asked where something comes behind an expression, and where that is assigned to
+pub record TailAsked (above : List Symbol) (tail : Nonterminal) (rest : List Symbol) : Type 0 where
+  pub asks : List Ask
+  pub asks_are : least (Non tail ∷ rest) (Some (AtLeast 0 ∷ [])) ≡ Some asks
+  pub demands : List Demand
+  pub demands_are : exactly (Non tail ∷ rest) (Some (Whole 0 ∷ [])) ≡ Some demands
+  pub many : length asks ≡ length demands
+  -- the first ask alone is open
+  pub on_top : opens_top asks ≡ true
+  pub adds : adds_to_none above (Some asks) ≡ true
+  pub assigned : List Demand
+  pub assigned_are : exactly (turning tail ++ rest) (Some (Whole 0 ∷ [])) ≡ Some assigned
+  pub turned : AllPairedTurned asks assigned
+
+none_asked : (symbols : List Symbol) → least symbols None ≡ None
+none_asked [] = refl
+none_asked (s ∷ symbols) = ap (before s) (none_asked symbols)
+
+pub asks_below : (above symbols : List Symbol) (asks : List Ask) → least (above ++ symbols) (Some (AtLeast 0 ∷ [])) ≡ Some asks → (qs : List Ask) × (least symbols (Some (AtLeast 0 ∷ [])) ≡ Some qs)
+asks_below above symbols asks e = go (least symbols (Some (AtLeast 0 ∷ []))) refl (sym (least_joined above symbols (Some (AtLeast 0 ∷ []))) ∙ e)
+  where
+    go : (o : Option (List Ask)) → least symbols (Some (AtLeast 0 ∷ [])) ≡ o → least above o ≡ Some asks → (qs : List Ask) × (least symbols (Some (AtLeast 0 ∷ [])) ≡ Some qs)
+    go None o h = let no : None ≡ Some asks = sym (none_asked above) ∙ h in absurd (cc)
+    go (Some qs) o h = (qs, o)
+
+none_exact : (symbols : List Symbol) → exactly symbols None ≡ None
+none_exact [] = refl
+none_exact (s ∷ symbols) = ap (exactly_before s) (none_exact symbols)
+
+pub demands_below : (above symbols : List Symbol) (demands : List Demand) → exactly (above ++ symbols) (Some (Whole 0 ∷ [])) ≡ Some demands → (ds : List Demand) × (exactly symbols (Some (Whole 0 ∷ [])) ≡ Some ds)
+demands_below above symbols demands e = go (exactly symbols (Some (Whole 0 ∷ []))) refl (sym (exactly_joined above symbols (Some (Whole 0 ∷ []))) ∙ e)
+  where
+    go : (o : Option (List Demand)) → exactly symbols (Some (Whole 0 ∷ [])) ≡ o → exactly above o ≡ Some demands → (ds : List Demand) × (exactly symbols (Some (Whole 0 ∷ [])) ≡ Some ds)
+    go None o h = let no : None ≡ Some demands = sym (none_exact above) ∙ h in absurd (cc)
+    go (Some ds) o h = (ds, o)
+
+adds_rest : (these symbols : List Symbol) → adds_to_none (these ++ symbols) (Some (AtLeast 0 ∷ [])) ≡ true → adds_to_none symbols (Some (AtLeast 0 ∷ [])) ≡ true
+adds_rest [] symbols h = h
+adds_rest (Tok k ∷ these) symbols h = adds_rest these symbols h
+adds_rest (Non y ∷ these) symbols h = adds_rest these symbols h
+adds_rest (Do a ∷ these) symbols h = adds_rest these symbols (and_right (not (adds_to_open a (least (these ++ symbols) (Some (AtLeast 0 ∷ []))))) (adds_to_none (these ++ symbols) (Some (AtLeast 0 ∷ []))) h)
+
+adds_above : (these symbols : List Symbol) (qs : List Ask) → least symbols (Some (AtLeast 0 ∷ [])) ≡ Some qs → adds_to_none (these ++ symbols) (Some (AtLeast 0 ∷ [])) ≡ true → adds_to_none these (Some qs) ≡ true
+adds_above [] symbols qs e h = refl
+adds_above (Tok k ∷ these) symbols qs e h = adds_above these symbols qs e h
+adds_above (Non y ∷ these) symbols qs e h = adds_above these symbols qs e h
+adds_above (Do a ∷ these) symbols qs e h =
+    both (not (adds_to_open a (least these (Some qs)))) (adds_to_none these (Some qs))
+    (ap (λ (o : Option (List Ask)). not (adds_to_open a o)) (ap (least these) (sym e) ∙ sym (least_joined these symbols (Some (AtLeast 0 ∷ []))))
+    ∙ and_left (not (adds_to_open a (least (these ++ symbols) (Some (AtLeast 0 ∷ []))))) (adds_to_none (these ++ symbols) (Some (AtLeast 0 ∷ []))) h)
+    (adds_above these symbols qs e (and_right (not (adds_to_open a (least (these ++ symbols) (Some (AtLeast 0 ∷ []))))) (adds_to_none (these ++ symbols) (Some (AtLeast 0 ∷ []))) h))
+
+pub turned_many : (qs : List Ask) (ds : List Demand) → AllPairedTurned qs ds → length qs ≡ length ds
+turned_many [] [] h = refl
+turned_many [] (d ∷ ds) h = absurd h
+turned_many (q ∷ qs) [] h = absurd h
+turned_many (q ∷ qs) (d ∷ ds) h = ap suc (turned_many qs ds h.1)
+
+pub tail_asked : (above rest : List Symbol) (x : Nonterminal) (asks : List Ask) (demands : List Demand) → is_tail x ≡ true → are_quiet rest ≡ true → are_calm rest ≡ true → adds_to_none (above ++ Non x ∷ rest) (Some (AtLeast 0 ∷ [])) ≡ true
+    → least (above ++ Non x ∷ rest) (Some (AtLeast 0 ∷ [])) ≡ Some asks → exactly (above ++ Non x ∷ rest) (Some (Whole 0 ∷ [])) ≡ Some demands → TailAsked above x rest
+tail_asked above rest x asks demands tail quiet calm adds e f =
+    let a = asks_below above (Non x ∷ rest) asks e in
+    let d = demands_below above (Non x ∷ rest) demands f in
+    at_tail a.0 a.1 d.0 d.1
+  where
+    at_tail : (tail_asks : List Ask) → least (Non x ∷ rest) (Some (AtLeast 0 ∷ [])) ≡ Some tail_asks → (tail_demands : List Demand) → exactly (Non x ∷ rest) (Some (Whole 0 ∷ [])) ≡ Some tail_demands → TailAsked above x rest
+    at_tail tail_asks a tail_demands d =
+        record {
+          asks = tail_asks;
+          asks_are = a;
+          demands = tail_demands;
+          demands_are = d;
+          many = paired_many tail_asks tail_demands tail_paired;
+          on_top = top rest_asks.0 (sym (ap (before (Non x)) rest_asks.1) ∙ a) rest_closed;
+          adds = adds_above above (Non x ∷ rest) tail_asks a adds;
+          assigned = turning_demands.0;
+          assigned_are = turning_demands.1;
+          turned = turned;
+        }
+      where
+        rest_asks : (rs : List Ask) × (least rest (Some (AtLeast 0 ∷ [])) ≡ Some rs)
+        rest_asks = asks_behind (Non x) rest (Some (AtLeast 0 ∷ [])) tail_asks a
+
+        rest_demands : (us : List Demand) × (exactly rest (Some (Whole 0 ∷ [])) ≡ Some us)
+        rest_demands = behind_first (Non x) rest (Some (Whole 0 ∷ [])) tail_demands d
+
+        rest_closed : none_open rest_asks.0 ≡ true
+        rest_closed = none_kept rest (AtLeast 0 ∷ []) rest_asks.0 quiet calm refl rest_asks.1
+
+        rest_settled : are_settled rest (Some (AtLeast 0 ∷ [])) ≡ true
+        rest_settled = calm_settled rest (AtLeast 0 ∷ []) rest_asks.0 calm (adds_rest (Non x ∷ []) rest (adds_rest above (Non x ∷ rest) adds)) rest_asks.1
+
+        rest_paired : AllPaired rest_asks.0 rest_demands.0
+        rest_paired = paired_law rest (AtLeast 0 ∷ []) rest_asks.0 (Whole 0 ∷ []) rest_demands.0 (refl, tt) rest_settled rest_asks.1 rest_demands.1
+
+        tail_paired : AllPaired tail_asks tail_demands
+        tail_paired = paired_law (Non x ∷ rest) (AtLeast 0 ∷ []) tail_asks (Whole 0 ∷ []) tail_demands (refl, tt) rest_settled a d
+
+        turning_demands : (us : List Demand) × (exactly (turning x ++ rest) (Some (Whole 0 ∷ [])) ≡ Some us)
+        turning_demands = row_asks x (guarded are_targets_last (turning x)) rest (Some (Whole 0 ∷ [])) tail_demands (turning_row x tail).0 d
+
+        turned_pairs : (qs : List Ask) (ds : List Demand) → none_open qs ≡ true → AllPaired qs ds → before_symbol (Non x) qs ≡ Some tail_asks → exactly (turning x) (Some ds) ≡ Some turning_demands.0
+            → AllPairedTurned tail_asks turning_demands.0
+        turned_pairs [] ds n h i j = absurd (cc)
+        turned_pairs (q ∷ qs) [] n h i j = absurd h
+        turned_pairs (q ∷ qs) (d ∷ ds) n h i j =
+            subst (λ (l : List Ask). AllPairedTurned l turning_demands.0) (same_Some (map (ask_least q) (low x) ++ qs) tail_asks i)
+            (tail_turned x q d qs ds turning_demands.0 tail (none_rest q qs n).0 h.0 (none_turned qs ds (none_rest q qs n).1 h.1) j)
+
+        turned : AllPairedTurned tail_asks turning_demands.0
+        turned =
+            turned_pairs rest_asks.0 rest_demands.0 rest_closed rest_paired (sym (ap (before (Non x)) rest_asks.1) ∙ a)
+            (sym (ap (exactly (turning x)) rest_demands.1) ∙ sym (exactly_joined (turning x) rest (Some (Whole 0 ∷ []))) ∙ turning_demands.1)
+
+        top : (rs : List Ask) → before_symbol (Non x) rs ≡ Some tail_asks → none_open rs ≡ true → opens_top tail_asks ≡ true
+        top [] i n = absurd (cc)
+        top (q ∷ rs) i n = let r = none_rest q rs n in ap opens_top (sym (same_Some (map (ask_least q) (low x) ++ rs) tail_asks i)) ∙ one_on_top x q rs tail r.0 r.1
+
 -- the reading that assigns, where something comes behind the expression
 turned_read : (front : List Token) (above rest : List Symbol) (x : Nonterminal) (v : Parts) (asks : List Ask) (ws : List Demand) (p : Place) → is_tail x ≡ true → are_within above ≡ true → are_quiet rest ≡ true → are_calm rest ≡ true
     → adds_to_none (above ++ Non x ∷ rest) (Some (AtLeast 0 ∷ [])) ≡ true → Behind front [] (above ++ Non x ∷ rest) v → least (above ++ Non x ∷ rest) (Some (AtLeast 0 ∷ [])) ≡ Some asks
     → open_targets asks (entries_of v) ≡ true → AllPairedTurned asks ws → IsReached front v ws p
-turned_read front above rest x v asks ws p tail within quiet calm adds b e some paired = at_tail (sym (ap (least above) tail_asks.1) ∙ sym (least_joined above (Non x ∷ rest) (Some (AtLeast 0 ∷ []))) ∙ e)
-  where
-    tail_asks : (qs : List Ask) × (least (Non x ∷ rest) (Some (AtLeast 0 ∷ [])) ≡ Some qs)
-    tail_asks = there (least (Non x ∷ rest) (Some (AtLeast 0 ∷ []))) refl (sym (least_joined above (Non x ∷ rest) (Some (AtLeast 0 ∷ []))) ∙ e)
-      where
-        none_there : (symbols : List Symbol) → least symbols None ≡ None
-        none_there [] = refl
-        none_there (s ∷ symbols) = ap (before s) (none_there symbols)
-
-        there : (o : Option (List Ask)) → least (Non x ∷ rest) (Some (AtLeast 0 ∷ [])) ≡ o → least above o ≡ Some asks → (qs : List Ask) × (least (Non x ∷ rest) (Some (AtLeast 0 ∷ [])) ≡ Some qs)
-        there None o h = let no : None ≡ Some asks = sym (none_there above) ∙ h in absurd (cc)
-        there (Some qs) o h = (qs, o)
-
-    tail_demands : (ds : List Demand) × (exactly (Non x ∷ rest) (Some (Whole 0 ∷ [])) ≡ Some ds)
-    tail_demands = there (exactly (Non x ∷ rest) (Some (Whole 0 ∷ []))) refl (sym (exactly_joined above (Non x ∷ rest) (Some (Whole 0 ∷ []))) ∙ b.exactly_is)
-      where
-        none_there : (symbols : List Symbol) → exactly symbols None ≡ None
-        none_there [] = refl
-        none_there (s ∷ symbols) = ap (exactly_before s) (none_there symbols)
-
-        there : (o : Option (List Demand)) → exactly (Non x ∷ rest) (Some (Whole 0 ∷ [])) ≡ o → exactly above o ≡ Some b.demands → (ds : List Demand) × (exactly (Non x ∷ rest) (Some (Whole 0 ∷ [])) ≡ Some ds)
-        there None o h = let no : None ≡ Some b.demands = sym (none_there above) ∙ h in absurd (cc)
-        there (Some ds) o h = (ds, o)
-
-    adds_rest : (these symbols : List Symbol) → adds_to_none (these ++ symbols) (Some (AtLeast 0 ∷ [])) ≡ true → adds_to_none symbols (Some (AtLeast 0 ∷ [])) ≡ true
-    adds_rest [] symbols h = h
-    adds_rest (Tok k ∷ these) symbols h = adds_rest these symbols h
-    adds_rest (Non y ∷ these) symbols h = adds_rest these symbols h
-    adds_rest (Do a ∷ these) symbols h = adds_rest these symbols (and_right (not (adds_to_open a (least (these ++ symbols) (Some (AtLeast 0 ∷ []))))) (adds_to_none (these ++ symbols) (Some (AtLeast 0 ∷ []))) h)
-
-    adds_above : (these symbols : List Symbol) (qs : List Ask) → least symbols (Some (AtLeast 0 ∷ [])) ≡ Some qs → adds_to_none (these ++ symbols) (Some (AtLeast 0 ∷ [])) ≡ true → adds_to_none these (Some qs) ≡ true
-    adds_above [] symbols qs e h = refl
-    adds_above (Tok k ∷ these) symbols qs e h = adds_above these symbols qs e h
-    adds_above (Non y ∷ these) symbols qs e h = adds_above these symbols qs e h
-    adds_above (Do a ∷ these) symbols qs e h =
-        both (not (adds_to_open a (least these (Some qs)))) (adds_to_none these (Some qs))
-        (ap (λ (o : Option (List Ask)). not (adds_to_open a o)) (ap (least these) (sym e) ∙ sym (least_joined these symbols (Some (AtLeast 0 ∷ []))))
-        ∙ and_left (not (adds_to_open a (least (these ++ symbols) (Some (AtLeast 0 ∷ []))))) (adds_to_none (these ++ symbols) (Some (AtLeast 0 ∷ []))) h)
-        (adds_above these symbols qs e (and_right (not (adds_to_open a (least (these ++ symbols) (Some (AtLeast 0 ∷ []))))) (adds_to_none (these ++ symbols) (Some (AtLeast 0 ∷ []))) h))
-
-    rest_asks : (rs : List Ask) × (least rest (Some (AtLeast 0 ∷ [])) ≡ Some rs)
-    rest_asks = asks_behind (Non x) rest (Some (AtLeast 0 ∷ [])) tail_asks.0 tail_asks.1
-
-    rest_demands : (us : List Demand) × (exactly rest (Some (Whole 0 ∷ [])) ≡ Some us)
-    rest_demands = behind_first (Non x) rest (Some (Whole 0 ∷ [])) tail_demands.0 tail_demands.1
-
-    rest_closed : none_open rest_asks.0 ≡ true
-    rest_closed = none_kept rest (AtLeast 0 ∷ []) rest_asks.0 quiet calm refl rest_asks.1
-
-    rest_paired : AllPaired rest_asks.0 rest_demands.0
-    rest_paired =
-        paired_law rest (AtLeast 0 ∷ []) rest_asks.0 (Whole 0 ∷ []) rest_demands.0 (refl, tt)
-        (calm_settled rest (AtLeast 0 ∷ []) rest_asks.0 calm (adds_rest (Non x ∷ []) rest (adds_rest above (Non x ∷ rest) adds)) rest_asks.1) rest_asks.1 rest_demands.1
-
-    turning_demands : (us : List Demand) × (exactly (turning x ++ rest) (Some (Whole 0 ∷ [])) ≡ Some us)
-    turning_demands = row_asks x (guarded are_targets_last (turning x)) rest (Some (Whole 0 ∷ [])) tail_demands.0 (turning_row x tail).0 tail_demands.1
-
-    turned_pairs : (qs : List Ask) (ds : List Demand) → none_open qs ≡ true → AllPaired qs ds → before_symbol (Non x) qs ≡ Some tail_asks.0 → exactly (turning x) (Some ds) ≡ Some turning_demands.0
-        → AllPairedTurned tail_asks.0 turning_demands.0
-    turned_pairs [] ds n h i j = absurd (cc)
-    turned_pairs (q ∷ qs) [] n h i j = absurd h
-    turned_pairs (q ∷ qs) (d ∷ ds) n h i j =
-        subst (λ (l : List Ask). AllPairedTurned l turning_demands.0) (same_Some (map (ask_least q) (low x) ++ qs) tail_asks.0 i)
-        (tail_turned x q d qs ds turning_demands.0 tail (none_rest q qs n).0 h.0 (none_turned qs ds (none_rest q qs n).1 h.1) j)
-
-    turned : AllPairedTurned tail_asks.0 turning_demands.0
-    turned =
-        turned_pairs rest_asks.0 rest_demands.0 rest_closed rest_paired (sym (ap (before (Non x)) rest_asks.1) ∙ tail_asks.1)
-        (sym (ap (exactly (turning x)) rest_demands.1) ∙ sym (exactly_joined (turning x) rest (Some (Whole 0 ∷ []))) ∙ turning_demands.1)
-
-    turned_many : (qs : List Ask) (ds : List Demand) → AllPairedTurned qs ds → length qs ≡ length ds
-    turned_many [] [] h = refl
-    turned_many [] (d ∷ ds) h = absurd h
-    turned_many (q ∷ qs) [] h = absurd h
-    turned_many (q ∷ qs) (d ∷ ds) h = ap suc (turned_many qs ds h.1)
-
-    tail_paired : AllPaired tail_asks.0 tail_demands.0
-    tail_paired =
-        paired_law (Non x ∷ rest) (AtLeast 0 ∷ []) tail_asks.0 (Whole 0 ∷ []) tail_demands.0 (refl, tt)
-        (calm_settled rest (AtLeast 0 ∷ []) rest_asks.0 calm (adds_rest (Non x ∷ []) rest (adds_rest above (Non x ∷ rest) adds)) rest_asks.1) tail_asks.1 tail_demands.1
-
-    -- the first ask alone is open
-    on_top : (rs : List Ask) (es : List Entry) → before_symbol (Non x) rs ≡ Some tail_asks.0 → none_open rs ≡ true → open_targets tail_asks.0 es ≡ true → targets_last es ≡ true
-    on_top [] es i n h = absurd (cc)
-    on_top (q ∷ rs) es i n h =
-        let r = none_rest q rs n in
-        top_targets (map (ask_least q) (low x) ++ rs) es (one_on_top x q rs tail r.0 r.1) (ap (λ (l : List Ask). open_targets l es) (same_Some (map (ask_least q) (low x) ++ rs) tail_asks.0 i) ∙ h)
-
-    there : (ds : List Demand) × (exactly above (Some turning_demands.0) ≡ Some ds) × (length b.demands ≡ length ds)
-    there =
-        exactly_there above tail_demands.0 turning_demands.0 b.demands (sym (paired_many tail_asks.0 tail_demands.0 tail_paired) ∙ turned_many tail_asks.0 turning_demands.0 turned)
-        (sym (ap (exactly above) tail_demands.1) ∙ sym (exactly_joined above (Non x ∷ rest) (Some (Whole 0 ∷ []))) ∙ b.exactly_is)
-
-    at_tail : least above (Some tail_asks.0) ≡ Some asks → IsReached front v ws p
-    at_tail j =
-        let l = targets_left 100 p above (Non x ∷ rest) v tail_asks.0 asks (all_ranked above) (anywhere p above (specimens_first above (Non x ∷ rest) b.specimens)) within (adds_above above (Non x ∷ rest) tail_asks.0 tail_asks.1 adds) b.at_front.fit j some in
-        let last = on_top rest_asks.0 (entries_of l.left) (sym (ap (before (Non x)) rest_asks.1) ∙ tail_asks.1) rest_closed l.targets in
-        let same : there.0 ≡ ws = turned_is asks there.0 ws (turned_paired_law above tail_asks.0 asks turning_demands.0 there.0 turned within j there.1) paired in
-        turning_law front above rest x v (entries_of l.left) turning_demands.0 ws p 100 tail b.at_front b.specimens l.ends_so last turning_demands.1 (there.1 ∙ ap Some same)
+turned_read front above rest x v asks ws p tail within quiet calm adds b e some paired =
+    let t = tail_asked above rest x asks b.demands tail quiet calm adds e b.exactly_is in
+    let there =
+    exactly_there above t.demands t.assigned b.demands (sym t.many ∙ turned_many t.asks t.assigned t.turned)
+    (sym (ap (exactly above) t.demands_are) ∙ sym (exactly_joined above (Non x ∷ rest) (Some (Whole 0 ∷ []))) ∙ b.exactly_is) in
+    let asked = sym (ap (least above) t.asks_are) ∙ sym (least_joined above (Non x ∷ rest) (Some (AtLeast 0 ∷ []))) ∙ e in
+    let l = targets_left 100 p above (Non x ∷ rest) v t.asks asks (all_ranked above) (anywhere p above (specimens_first above (Non x ∷ rest) b.specimens)) within t.adds b.at_front.fit asked some in
+    let same : there.0 ≡ ws = turned_is asks there.0 ws (turned_paired_law above t.asks asks t.assigned there.0 t.turned within asked there.1) paired in
+    turning_law front above rest x v (entries_of l.left) t.assigned ws p 100 tail b.at_front b.specimens l.ends_so (top_targets t.asks (entries_of l.left) t.on_top l.targets) t.assigned_are (there.1 ∙ ap Some same)
 
 -- an item that is read stays so
-abbrev IsSettled : Option Reading → List Ask → Type 0
+abbrev pub IsSettled : Option Reading → List Ask → Type 0
 IsSettled None asks = ⊥
 IsSettled (Some (Settled qs)) asks = qs ≡ asks
 IsSettled (Some (Among aims)) asks = ⊥
@@ -368,7 +396,7 @@ among_so (Some aims) asks h = go (has_never aims) h
     go true h = h
     go false h = h
 
-stays_read : (item rest : List Symbol) (base : List Aim) (asks : List Ask) → reading (Do AddItem ∷ rest) ≡ Some (Among base) → IsSettled (reading (item ++ Do AddItem ∷ rest)) asks → ⊥
+pub stays_read : (item rest : List Symbol) (base : List Aim) (asks : List Ask) → reading (Do AddItem ∷ rest) ≡ Some (Among base) → IsSettled (reading (item ++ Do AddItem ∷ rest)) asks → ⊥
 stays_read [] rest base asks e h = subst (λ (o : Option Reading). IsSettled o asks) e h
 stays_read (s ∷ item) rest base asks e h = go (reading (item ++ Do AddItem ∷ rest)) (λ k. stays_read item rest base asks e k) (λ qs r. stays_read item rest base qs e (subst (λ (o : Option Reading). IsSettled o qs) (sym r) refl)) refl h
   where
@@ -387,7 +415,8 @@ settled_adds symbols asks y r = go y.shaped
         let read : reading (Do AddItem ∷ i.rest) ≡ Some (Among (Target i.asks.above ∷ Targets i.asks.above ∷ map Simply i.asks.below)) = ap (reading_before (Do AddItem)) (settled_reading i.rest (OpenAtLeast i.asks.above ∷ i.asks.below) i.rest_settled i.asks.rest_is) in
         absurd (stays_read i.item i.rest (Target i.asks.above ∷ Targets i.asks.above ∷ map Simply i.asks.below) asks read (subst (λ (o : Option Reading). IsSettled o asks) (sym (sym (ap reading i.symbols_are) ∙ r)) refl))
 
-pub settled_read_law : SettledReadLaw
+pub settled_read_law : (front : List Token) (symbols : List Symbol) (v : Parts) (asks : List Ask) (ws : List Demand) → Behind front [] symbols v → Ready symbols [] → acts_first symbols ≡ false → reading symbols ≡ Some (Settled asks)
+    → targets_reading symbols (entries_of v) ≡ Some ws → (p : Place) → IsReached front v ws p
 settled_read_law front symbols v asks ws b y acts r w p = go (open_targets b.asks (entries_of v)) refl
   where
     adds : adds_to_none symbols (Some (AtLeast 0 ∷ [])) ≡ true

@@ -55,7 +55,7 @@ settled_reading (s ∷ symbols) asks h e =
     let f = adds_first s symbols (AtLeast 0 ∷ []) b.0 h b.1 in
     ap (reading_before s) (settled_reading symbols b.0 f.1 b.1) ∙ settled_step s b.0 f.0 ∙ ap settled (sym (ap (before s) b.1) ∙ e)
 
-settles_so : (a : Action) (rs : List Ask) → not (begins_row a) ≡ true → not (adds_to_open a (Some rs)) ≡ true → settles_first a (Some rs) ≡ true
+pub settles_so : (a : Action) (rs : List Ask) → not (begins_row a) ≡ true → not (adds_to_open a (Some rs)) ≡ true → settles_first a (Some rs) ≡ true
 settles_so a [] h k = refl
 settles_so MakeTuple (q ∷ rs) h k = absurd (cc)
 settles_so MakeTargets (q ∷ rs) h k = absurd (cc)
@@ -74,7 +74,7 @@ calm_settled (Do a ∷ symbols) qs asks c h e =
     (ap (settles_first a) b.1 ∙ settles_so a b.0 (and_left (not (begins_row a)) (are_calm symbols) c) (and_left (not (adds_to_open a (Some b.0))) true f.0))
     (calm_settled symbols qs b.0 (and_right (not (begins_row a)) (are_calm symbols) c) f.1 b.1)
 
-adds_none : (a : Action) (rs : List Ask) → none_open rs ≡ true → not (adds_to_open a (Some rs)) ≡ true
+pub adds_none : (a : Action) (rs : List Ask) → none_open rs ≡ true → not (adds_to_open a (Some rs)) ≡ true
 adds_none AddItem [] h = refl
 adds_none AddItem (q ∷ rs) h = and_left (not (is_open q)) (none_open rs) h
 adds_none a rs h = refl
@@ -272,7 +272,7 @@ tame_kept (s ∷ symbols) aims others h c t e =
     symbol_tame s b.0 others (quiet_first s symbols h).0 (calm_first s symbols c).0 (sym (ap (aims_before s) b.1) ∙ e) (tame_kept symbols aims b.0 (quiet_first s symbols h).1 (calm_first s symbols c).1 t b.1)
 
 -- what can be what it is to be is asked so
-more_so : (o : Option Demand) (w : Option (List Demand)) (ds : List Demand) → more_of o w ≡ Some ds → (d : Demand) × (us : List Demand) × (o ≡ Some d) × (w ≡ Some us) × (ds ≡ d ∷ us)
+pub more_so : (o : Option Demand) (w : Option (List Demand)) (ds : List Demand) → more_of o w ≡ Some ds → (d : Demand) × (us : List Demand) × (o ≡ Some d) × (w ≡ Some us) × (ds ≡ d ∷ us)
 more_so None w ds e = absurd (cc)
 more_so (Some d) None ds e = absurd (cc)
 more_so (Some d) (Some us) ds e = (d, us, refl, refl, sym (same_Some (d ∷ us) ds e))

@@ -83,7 +83,7 @@ drop_frame k (entry (TokenShape t) p ∷ es) new events f [] below e l = absurd 
 drop_frame k (entry (TokenShape t) p ∷ es) new events f (x ∷ front) below e l = let one : es ≡ front ++ below = cc in let is : es ≡ new = cc in (front, sym is ∙ one, omega arith)
 drop_frame k es new events f front below e l = no_effect f
 
-asks_many : {A : Type 0} (f : A → Ask) (these : List A) (qs : List Ask) → length (map f these ++ qs) ≡ length these + length qs
+pub asks_many : {A : Type 0} (f : A → Ask) (these : List A) (qs : List Ask) → length (map f these ++ qs) ≡ length these + length qs
 asks_many f [] qs = omega arith
 asks_many f (a ∷ these) qs = let r = asks_many f these qs in omega arith
 

@@ -107,7 +107,7 @@ specimens_first (Tok k ∷ these) symbols h = both _ _ (and_left _ _ h) (specime
 specimens_first (Non x ∷ these) symbols h = specimens_first these symbols h
 specimens_first (Do a ∷ these) symbols h = specimens_first these symbols h
 
-specimens_last : (these symbols : List Symbol) → have_specimens table sets (these ++ symbols) ≡ true → have_specimens table sets symbols ≡ true
+pub specimens_last : (these symbols : List Symbol) → have_specimens table sets (these ++ symbols) ≡ true → have_specimens table sets symbols ≡ true
 specimens_last [] symbols h = h
 specimens_last (Tok k ∷ these) symbols h = specimens_last these symbols (and_right _ _ h)
 specimens_last (Non x ∷ these) symbols h = specimens_last these symbols h

@@ -93,8 +93,8 @@ ReadingLaw =
     (front : List Token) (symbols : List Symbol) (v : Parts) (b : Behind front [] symbols v) → Ready symbols [] → acts_first symbols ≡ false
     → InModules front symbols (λ at body. IsNoDeeper at v b.demands body ⊎ ((ws : List Demand) × (targets_reading symbols (entries_of v) ≡ Some ws) × IsNoDeeper at v ws body))
 
--- And where no item is read of a tuple that may be assigned to, there is a module for the one with targets.
-abbrev pub SettledReadLaw : Type 0
-SettledReadLaw =
-    (front : List Token) (symbols : List Symbol) (v : Parts) (asks : List Ask) (ws : List Demand) → Behind front [] symbols v → Ready symbols [] → acts_first symbols ≡ false
-    → reading symbols ≡ Some (Settled asks) → targets_reading symbols (entries_of v) ≡ Some ws → (p : Place) → IsReached front v ws p
+-- And for the one with targets there is a module.
+abbrev pub ReachedReadLaw : Type 0
+ReachedReadLaw =
+    (front : List Token) (symbols : List Symbol) (v : Parts) (ws : List Demand) → Behind front [] symbols v → Ready symbols [] → acts_first symbols ≡ false → targets_reading symbols (entries_of v) ≡ Some ws
+    → (p : Place) → IsReached front v ws p

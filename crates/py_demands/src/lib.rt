@@ -16,7 +16,7 @@ ghost use Rattle.py_demands.specs.Decided.{EitherLaw, WholeLaw, BothLaw};
 ghost use Rattle.py_demands.specs.FrontDepth.{FirstLaw};
 ghost use Rattle.py_demands.specs.ItemSteps.{ItemStepsLaw};
 ghost use Rattle.py_demands.specs.Paired.{PairedLaw, SteadyLaw, AgreementLaw};
-ghost use Rattle.py_demands.specs.Readings.{ReadingLaw, SettledReadLaw};
+ghost use Rattle.py_demands.specs.Readings.{ReadingLaw, ReachedReadLaw};
 ghost use Rattle.py_demands.specs.Ready.{ReadyLaw};
 ghost use Rattle.py_demands.specs.Steps.{StepsLaw};
 ghost use Rattle.py_demands.specs.TurnedPaired.{TurnedPairedLaw, BothPairsLaw};
@@ -134,10 +134,9 @@ pub fn a_module_stands_no_less_deep_than_a_reading()
     ensures law { ReadingLaw }
 {}
 
-/// Where no item is read of a tuple that may be assigned to, a module that begins with the front has the nodes behind it just as deep as the reading
-/// with targets asks.
+/// A module that begins with the front has the nodes behind it just as deep as the reading with targets asks, where there is that reading.
 pub fn a_reading_with_targets_is_that_of_a_module()
-    ensures law { SettledReadLaw }
+    ensures law { ReachedReadLaw }
 {}
 
 /// Where each of two readings is that of a module that begins with a front, and no module has a node less deep than one of both, the first place where
