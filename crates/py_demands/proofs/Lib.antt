@@ -3,7 +3,7 @@ mod AimRows
 mod AimsKept
 mod AsksKept
 mod BothFirst
-mod BothFound
+pub mod BothFound
 mod Bounded
 mod Closed
 mod ClosedForms
@@ -14,7 +14,7 @@ mod ExactRows
 mod FewOpen
 mod Found
 mod FoundClosed
-mod FrontFirst
+pub mod FrontFirst
 mod ItemFollowed
 mod ItemSteps
 mod ItemTurned
@@ -25,10 +25,10 @@ mod Made
 mod Ordered
 mod Paired
 mod Passing
-mod ReadItems
+pub mod ReadItems
 mod ReadSettled
-mod ReadingsLow
-mod ReadySteps
+pub mod ReadingsLow
+pub mod ReadySteps
 mod RowsAimed
 mod RowsClose
 mod RowsLow
@@ -39,5 +39,5 @@ mod TargetsLeft
 mod Turned
 mod TurnedPaired
 mod Turning
-mod Ways
+pub mod Ways
 pub mod Steps

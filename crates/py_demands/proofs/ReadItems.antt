@@ -43,7 +43,7 @@ use Rattle.py_demands.proofs.Turning.{specimens_first, specimens_last}
 use Rattle.std.proofs.lemmas.Option.{same_Some}
 
 -- the reading goes on over the item, and nothing in it can't be a target
-simply_never : (qs : List Ask) → has_never (map Simply qs) ≡ false
+pub simply_never : (qs : List Ask) → has_never (map Simply qs) ≡ false
 simply_never [] = refl
 simply_never (q ∷ qs) = simply_never qs
 

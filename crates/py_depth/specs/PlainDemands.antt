@@ -1,5 +1,5 @@
 -- What the code asks of outlines, in plain words. Its stack has the last at the end.
-use Rattle.std.specs.Prelude.{List, map, reverse, Option, Some, None}
+use Rattle.std.specs.Prelude.{ℕ, List, ◌∷◌, map, reverse, Option, Some, None}
 use Rattle.py_tokens.specs.Token as token
 use Rattle.py_lexer.specs.PlainTokens.{plain_place}
 use Rattle.py_nesting.specs.Walk as meaning
@@ -21,3 +21,8 @@ demands_of demands = map plain_demand (reverse demands)
 abbrev pub plain_first : Option Place → Option token.Place
 plain_first None = None
 plain_first (Some p) = Some (plain_place p)
+
+-- with a node that is met, if one is
+abbrev pub with_met : Option (Place × ℕ) → List meaning.Met → List meaning.Met
+with_met None nodes = nodes
+with_met (Some node) nodes = record { place = plain_place node.0; above = node.1 } ∷ nodes

@@ -91,7 +91,7 @@ pub(crate) const NOWHERE: Place = Place {
     column: 0,
 };
 
-pub(crate) fn is_target(form: ExprForm) -> bool
+pub fn is_target(form: ExprForm) -> bool
     ensures { result ≡ is_form_of_target (plain_form form) }
 {
     match form {

@@ -5,7 +5,7 @@ ghost use Rattle.py_lexer.specs.PlainTokens.{plain_place};
 ghost use Rattle.py_nesting.specs.Walk as walking;
 ghost use Rattle.py_nesting.specs.First as first_of;
 ghost use Rattle.py_depth.specs.PlainEntries.{plain_label, plain_event, events_of};
-ghost use Rattle.py_depth.specs.PlainDemands.{plain_demand, demands_of, plain_first};
+ghost use Rattle.py_depth.specs.PlainDemands.{plain_demand, demands_of, plain_first, with_met};
 
 use crate::event::{Event, Label};
 use py_lexer::is_before;
@@ -133,23 +133,25 @@ fn push_times(demands: &mut Vec<Demand>, demand: Demand, count: u8) -> Result<()
     Ok(())
 }
 
-/// One step back.
-#[tactic(auto, using(crate::proofs::Demands::stacks, crate::proofs::Demands::first_met))]
-fn go_back(
+/// One step back, and the node that is met there, if one is: its place, and how many others stand above it. Fails where memory runs out.
+#[tactic(auto, using(crate::proofs::Demands::stacks))]
+pub fn step_back(
     event: Event,
     demands: &mut Vec<Demand>,
-    first: Option<Place>,
-) -> Result<Option<Place>, AllocError>
+) -> Result<Option<(Place, u32)>, AllocError>
     ensures back { OnOk result (demands_of demands.new.items ≡ walking.back (plain_event event) (demands_of demands.old.items)) }
-    ensures first { IfOk result (λ f. (nodes : List walking.Met) → first_of.first_of (plain_first first) (walking.brought (plain_event event) (demands_of demands.old.items) nodes) ≡ first_of.first_of (plain_first f) nodes) }
+    ensures met { IfOk result (λ node. (nodes : List walking.Met) → walking.brought (plain_event event) (demands_of demands.old.items) nodes ≡ with_met node nodes) }
 {
     let Some(demand) = demands.pop() else {
-        return Ok(first);
+        return Ok(None);
     };
     match event {
         Event::Over(label, place, count) => {
             push_times(demands, below(label, demand)?, count)?;
-            return Ok(sooner(first, place, comes(label, demand)));
+            return match comes(label, demand) {
+                Some(above) => Ok(Some((place, above))),
+                None => Ok(None),
+            };
         }
         Event::Gather(count) => push_times(demands, within(demand), count)?,
         Event::Join(label) => {
@@ -167,7 +169,22 @@ fn go_back(
             demands.push(demand)?;
         }
     }
-    Ok(first)
+    Ok(None)
+}
+
+/// One step back, with the earlier of a place and of the node that is met, if it lies too deep.
+fn go_back(
+    event: Event,
+    demands: &mut Vec<Demand>,
+    first: Option<Place>,
+) -> Result<Option<Place>, AllocError>
+    ensures back { OnOk result (demands_of demands.new.items ≡ walking.back (plain_event event) (demands_of demands.old.items)) }
+    ensures first { IfOk result (λ f. (nodes : List walking.Met) → first_of.first_of (plain_first first) (walking.brought (plain_event event) (demands_of demands.old.items) nodes) ≡ first_of.first_of (plain_first f) nodes) }
+{
+    match step_back(event, demands)? {
+        Some((place, above)) => Ok(sooner(first, place, Some(above))),
+        None => Ok(first),
+    }
 }
 
 /// The first of this place and of those of nodes that have too many others above them, in what these steps put together, of which these

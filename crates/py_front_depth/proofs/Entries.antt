@@ -20,14 +20,14 @@ entries_of-push : (xs : List Entry) (x : Entry) → entries_of (xs ++ x ∷ []) 
 unfolding entries_of
 entries_of-push xs x = ap (map plain_entry) (reverse-append xs (x ∷ []))
 
-entries_of-nothing : entries_of [] ≡ []
+pub entries_of-nothing : entries_of [] ≡ []
 unfolding entries_of
 entries_of-nothing = refl
 
-entries_split : (entries : List Entry) (i : ℕ) (x : Entry) → i < length entries → entries_of (take (suc i) entries) ≡ plain_entry (get_or entries i x) ∷ entries_of (take i entries)
+pub entries_split : (entries : List Entry) (i : ℕ) (x : Entry) → i < length entries → entries_of (take (suc i) entries) ≡ plain_entry (get_or entries i x) ∷ entries_of (take i entries)
 entries_split entries i x p = ap entries_of (take-suc entries i x p) ∙ entries_of-push (take i entries) (get_or entries i x)
 
-demands_split : (demands : List Demand) (i : ℕ) (x : Demand) → i < length demands → demands_of (take (suc i) demands) ≡ plain_demand (get_or demands i x) ∷ demands_of (take i demands)
+pub demands_split : (demands : List Demand) (i : ℕ) (x : Demand) → i < length demands → demands_of (take (suc i) demands) ≡ plain_demand (get_or demands i x) ∷ demands_of (take i demands)
 demands_split demands i x p = ap demands_of (take-suc demands i x p) ∙ demands_of-push (take i demands) (get_or demands i x)
 
 -- the first place of all is what is left of it from here

@@ -1,3 +1,5 @@
 mod Stacks
 mod Entries
 mod Standing
+mod ReadBack
+mod NotedDepths

@@ -11,6 +11,8 @@ use Rattle.py_demands.specs.Readings.{has_never}
 use Rattle.py_front_depth.specs.Reading.{is_never_so}
 use Rattle.py_demands.specs.Closing.{exactly, exactly_by, exactly_before, exactly_symbol}
 use Rattle.py_depth.specs.PlainDemands.{plain_demand, demands_of}
+use Rattle.py_depth.specs.PlainEntries.{plain_event, events_of}
+use Rattle.py_depth.specs.declared.event.Event.{Event}
 use Rattle.py_depth.specs.declared.walk.Demand.{Demand}
 use Rattle.py_depth.specs.declared.walk.Demand.TheVariants as demand
 use Rattle.py_table.specs.PlainSymbols.{plain_symbol}
@@ -29,6 +31,14 @@ demands_of-push xs x = ap (map plain_demand) (reverse-append xs (x ∷ []))
 pub demands_of-nothing : demands_of [] ≡ []
 unfolding demands_of
 demands_of-nothing = refl
+
+pub events_of-push : (xs : List Event) (x : Event) → events_of (xs ++ x ∷ []) ≡ plain_event x ∷ events_of xs
+unfolding events_of
+events_of-push xs x = ap (map plain_event) (reverse-append xs (x ∷ []))
+
+pub events_of-nothing : events_of [] ≡ []
+unfolding events_of
+events_of-nothing = refl
 
 pub stack_of-push : (xs : List Symbol) (x : Symbol) → stack_of (xs ++ x ∷ []) ≡ plain_symbol x ∷ stack_of xs
 unfolding stack_of

@@ -14,6 +14,8 @@ use Rattle.py_syntax.proofs.TableLaws.{tree_is_reached}
 use Rattle.py_fronts.proofs.FrontsReached.{longer}
 use Rattle.py_nesting.specs.Outlines.{built}
 use Rattle.py_demands.specs.Behind.{Behind}
+use Rattle.py_demands.specs.Ready.{Ready}
+use Rattle.py_demands.proofs.ReadySteps.{ready_law}
 use Rattle.py_demands.proofs.Steps.{behind_at_beginning, behind_action, behind_token, behind_row}
 use Rattle.py_table.specs.Sights.{sight_numbered, number_of_sight, row_before, allowed}
 use Rattle.py_table.specs.Steps.{stack_of, Step, Going, Finished, Halted, expanded, one_step}
@@ -33,41 +35,47 @@ use Rattle.py_front_depth.specs.Reaching.{is_done, StandsFor, StandsHere}
 pub at_start : (front : List Token) (a b c : List SymbolKept) (nest : Nest) → a ≡ [] → b ≡ a ++ symbol.Expand nonterminal.Module ∷ [] → c ≡ b ++ symbol.Do action.BeginBody ∷ []
     → nest.entries.items ≡ [] → nest.events.items ≡ [] → StandsHere front front c nest
 unfolding entries_of events_of
-at_start front a b c nest e f h i j = (start, subst (λ (l : List Symbol). Behind front front l start) (sym (started a b c e f h)) (behind_at_beginning front), (ap entries_of i, ap (λ l. built (events_of l)) j))
+at_start front a b c nest e f h i j = (
+  start,
+  subst (λ (l : List Symbol). Behind front front l start) (sym (started a b c e f h)) (behind_at_beginning front),
+  subst (λ (l : List Symbol). Ready l front) (sym (started a b c e f h)) (ready_law.0 front),
+  (ap entries_of i, ap (λ l. built (events_of l)) j),
+)
 
 -- where the step goes
 abbrev GoesOn : List Token → Step → Type 0
-GoesOn front (Going symbols v ts) = Behind front ts symbols v
+GoesOn front (Going symbols v ts) = Behind front ts symbols v × Ready symbols ts
 GoesOn front Finished = Unit {0}
 GoesOn front Halted = Unit {0}
 
 row_taken : (x : Nonterminal) (v : Parts) (t : Token) (ts : List Token) → pick table sets x v (sight table (t ∷ ts)) ≡ allowed v (row_before x (sight_numbered (number_of_sight (t ∷ ts))))
 row_taken x v t ts = pick_before x v (sight table (t ∷ ts)) ∙ ap (λ (s : Sight). allowed v (row_before x s)) (sight_of_number (t ∷ ts))
 
-stepped : (front ahead : List Token) (symbols : List Symbol) (v : Parts) → Behind front ahead symbols v → is_done ahead symbols ≡ false → GoesOn front (one_step symbols v ahead)
-stepped front [] [] v b d = tt
-stepped front (t ∷ ts) [] v b d = tt
-stepped front [] (Tok k ∷ symbols) v b d = tt
-stepped front (t ∷ ts) (Tok k ∷ symbols) v b d = go (kind_of t == k) refl
+stepped : (front ahead : List Token) (symbols : List Symbol) (v : Parts) → Behind front ahead symbols v → Ready symbols ahead → is_done ahead symbols ≡ false → GoesOn front (one_step symbols v ahead)
+stepped front [] [] v b y d = tt
+stepped front (t ∷ ts) [] v b y d = tt
+stepped front [] (Tok k ∷ symbols) v b y d = tt
+stepped front (t ∷ ts) (Tok k ∷ symbols) v b y d = go (kind_of t == k) refl
   where
     go : (c : Bool) → (kind_of t == k) ≡ c → GoesOn front (if c then Going symbols (PToken t ∷ v) ts else Halted)
-    go true e = behind_token front ts t k symbols v (eqb-true (kind_of t) k e) b
+    go true e = (behind_token front ts t k symbols v (eqb-true (kind_of t) k e) b, ready_law.2 ts t k symbols y)
     go false e = tt
-stepped front [] (Non x ∷ symbols) v b d = absurd (cc)
-stepped front (t ∷ ts) (Non x ∷ symbols) v b d = go (allowed v (row_before x (sight_numbered (number_of_sight (t ∷ ts))))) (row_taken x v t ts)
+stepped front [] (Non x ∷ symbols) v b y d = absurd (cc)
+stepped front (t ∷ ts) (Non x ∷ symbols) v b y d = go (allowed v (row_before x (sight_numbered (number_of_sight (t ∷ ts))))) (row_taken x v t ts)
   where
     go : (o : Option (Row Nonterminal Action Parts)) → pick table sets x v (sight table (t ∷ ts)) ≡ o → GoesOn front (expanded o symbols v (t ∷ ts))
     go None e = tt
     go (Some r) e =
         let i = pick_is_row table sets x v (sight table (t ∷ ts)) r e in
-        behind_row front ts t x r symbols v e i.0 i.1 b
-stepped front ahead (Do a ∷ symbols) v b d = behind_action front ahead a symbols v b
+        (behind_row front ts t x r symbols v e i.0 i.1 b, ready_law.3 front ts t x r symbols v i.0 b y)
+stepped front ahead (Do a ∷ symbols) v b y d = (behind_action front ahead a symbols v b, ready_law.1 front ahead a symbols v b y)
 
-pub further : (front ahead left : List Token) (symbols : List Symbol) (others : List SymbolKept) (old new : Nest) → ((v : Parts) × Behind front ahead symbols v × StandsFor old v) → is_done ahead symbols ≡ false
+pub further : (front ahead left : List Token) (symbols : List Symbol) (others : List SymbolKept) (old new : Nest) → ((v : Parts) × Behind front ahead symbols v × Ready symbols ahead × StandsFor old v) → is_done ahead symbols ≡ false
     → ((v : Parts) → StandsFor old v → (w : Parts) × StandsFor new w × (one_step symbols v ahead ≡ Going (stack_of others) w left)) → StandsHere front left others new
 further front ahead left symbols others old new h d s =
-    let next = s h.0 h.2 in
-    (next.0, subst (GoesOn front) next.2 (stepped front ahead symbols h.0 h.1 d), next.1)
+    let next = s h.0 h.3 in
+    let there = subst (GoesOn front) next.2 (stepped front ahead symbols h.0 h.1 h.2 d) in
+    (next.0, there.0, there.1, next.1)
 
 -- where it is stuck with these tokens, it is so with more behind them
 abbrev IsHalted : Step → Type 0
@@ -105,9 +113,9 @@ no_module front (t ∷ ts) symbols v b d h more body m =
     let both : Stuck (t ∷ ts ++ more) ≡ Done (finished body) = sym stuck ∙ sym (f.goes more (suc r.0)) ∙ ap (λ (n : ℕ). run table sets n goal start (front ++ more)) (sym same) ∙ done in
     absurd (cc)
 
-pub stuck_so : (front ahead : List Token) (symbols : List Symbol) (old : Nest) → ((v : Parts) × Behind front ahead symbols v × StandsFor old v) → is_done ahead symbols ≡ false
+pub stuck_so : (front ahead : List Token) (symbols : List Symbol) (old : Nest) → ((v : Parts) × Behind front ahead symbols v × Ready symbols ahead × StandsFor old v) → is_done ahead symbols ≡ false
     → ((v : Parts) → StandsFor old v → one_step symbols v ahead ≡ Halted) → (more : List Token) (body : Body) → IsModule body (front ++ more) → ⊥
-stuck_so front ahead symbols old h d s = no_module front ahead symbols h.0 h.1 d (s h.0 h.2)
+stuck_so front ahead symbols old h d s = no_module front ahead symbols h.0 h.1 d (s h.0 h.3)
 
 -- it is never at its end where something is left to do
 not_finished : (ahead : List Token) (symbols : List Symbol) (v : Parts) → is_done ahead symbols ≡ false → one_step symbols v ahead ≡ Finished → ⊥
@@ -126,9 +134,9 @@ not_finished ahead (Non x ∷ symbols) v d h = go (allowed v (row_before x (sigh
     go (Some r) e = absurd (cc)
 not_finished ahead (Do a ∷ symbols) v d h = absurd (cc)
 
-pub done_so : (front ahead : List Token) (symbols : List Symbol) (old : Nest) (A : Parts → Type 0) → ((v : Parts) × Behind front ahead symbols v × StandsFor old v) → is_done ahead symbols ≡ false
+pub done_so : (front ahead : List Token) (symbols : List Symbol) (old : Nest) (A : Parts → Type 0) → ((v : Parts) × Behind front ahead symbols v × Ready symbols ahead × StandsFor old v) → is_done ahead symbols ≡ false
     → ((v : Parts) → StandsFor old v → (one_step symbols v ahead ≡ Finished) × A v) → (more : List Token) (body : Body) → IsModule body (front ++ more) → ⊥
-done_so front ahead symbols old A h d s more body m = not_finished ahead symbols h.0 d (s h.0 h.2).0
+done_so front ahead symbols old A h d s more body m = not_finished ahead symbols h.0 d (s h.0 h.3).0
 
 -- all is read, and no action comes next
 pub nothing_ahead : (ahead : List Token) (symbols : List Symbol) → is_done ahead symbols ≡ true → (ahead ≡ []) × (acts_first symbols ≡ false)

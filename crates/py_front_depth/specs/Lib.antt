@@ -3,3 +3,4 @@ pub mod PlainAsks
 pub mod PlainLeasts
 pub mod Reaching
 pub mod Reading
+pub mod Noted

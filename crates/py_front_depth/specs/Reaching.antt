@@ -10,6 +10,7 @@ use Rattle.py_nesting.specs.Shapes as shapes
 use Rattle.py_nesting.specs.Shapes.{outlines_of}
 use Rattle.py_demands.specs.Behind.{Behind}
 use Rattle.py_demands.specs.Readings.{acts_first}
+use Rattle.py_demands.specs.Ready.{Ready}
 use Rattle.py_table.specs.Steps.{stack_of}
 use Rattle.py_table.specs.declared.symbol.Symbol.{Symbol as SymbolKept}
 use Rattle.py_depth.specs.PlainEntries.{entries_of, events_of}
@@ -27,7 +28,7 @@ StandsFor nest v = (entries_of nest.entries.items ≡ shapes.entries_of v) × (b
 
 -- the run stands here, with these tokens ahead
 abbrev pub StandsHere : List Token → List Token → List SymbolKept → Nest → Type 0
-StandsHere front ahead symbols nest = (v : Parts) × Behind front ahead (stack_of symbols) v × StandsFor nest v
+StandsHere front ahead symbols nest = (v : Parts) × Behind front ahead (stack_of symbols) v × Ready (stack_of symbols) ahead × StandsFor nest v
 
 -- no module begins with these tokens, or the run stands behind them
 abbrev pub IsBehind : List Token → Option Reached → Type 0

@@ -4,9 +4,11 @@
 mod aim;
 mod ask;
 mod demands;
+mod depths;
 mod leasts;
 mod nodes;
 mod reach;
 mod reading;
+mod readings;
 mod role;
 mod roles;

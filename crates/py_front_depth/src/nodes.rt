@@ -5,6 +5,7 @@ ghost use Rattle.py_demands.specs.Asks.{has_outline, of_outlines};
 ghost use Rattle.py_demands.specs.FrontDepth.{entry_met, front_met, tokens_met};
 ghost use Rattle.py_nesting.specs.First.{first_of};
 ghost use Rattle.py_nesting.specs.Walk as walking;
+ghost use Rattle.py_lexer.specs.PlainTokens.{plain_place};
 ghost use Rattle.py_depth.specs.PlainEntries.{plain_entry, entries_of, events_of};
 ghost use Rattle.py_depth.specs.PlainDemands.{plain_demand, demands_of, plain_first};
 
@@ -27,14 +28,21 @@ fn is_outlined(entry: Entry) -> bool
     }
 }
 
+/// How many nodes stand above the one that comes to stand at a token, if one does.
+pub(crate) fn depth_at_token(entry: Entry, demand: Demand) -> Option<u32>
+    ensures { (nodes : List walking.Met) → entry_met (plain_entry entry) (plain_demand demand) nodes ≡ walking.met (plain_place entry.place) result nodes }
+{
+    match entry.shape {
+        Shape::Token(_) | Shape::Sign => comes(Label::Plain, demand),
+        _ => None,
+    }
+}
+
 /// The earlier of a place and of the node that comes to stand at a token, if it lies too deep.
 fn first_with(first: Option<Place>, entry: Entry, demand: Demand) -> Option<Place>
     ensures { (nodes : List walking.Met) → first_of (plain_first first) (entry_met (plain_entry entry) (plain_demand demand) nodes) ≡ first_of (plain_first result) nodes }
 {
-    match entry.shape {
-        Shape::Token(_) | Shape::Sign => sooner(first, entry.place, comes(Label::Plain, demand)),
-        _ => first,
-    }
+    sooner(first, entry.place, depth_at_token(entry, demand))
 }
 
 /// The first too deep of the nodes that come to stand at tokens.
@@ -53,7 +61,7 @@ fn first_at_tokens(entries: &[Entry], demands: &[Demand]) -> Result<Option<Place
 
 /// What is asked of the parts that have nodes.
 #[tactic(auto, using(crate::proofs::Stacks::stacks))]
-fn asked_of_outlines(
+pub(crate) fn asked_of_outlines(
     alloc: Global,
     entries: &[Entry],
     demands: &[Demand],

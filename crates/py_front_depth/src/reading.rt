@@ -22,7 +22,7 @@ use std::alloc::{AllocError, Global};
 
 /// What is asked last. It is there: without it the answer is want of memory.
 #[tactic(auto, using(crate::proofs::Stacks::stacks))]
-fn pop_ask(asks: &mut Vec<Ask>) -> Result<Ask, AllocError>
+pub(crate) fn pop_ask(asks: &mut Vec<Ask>) -> Result<Ask, AllocError>
     ensures { IfOk result (λ q. asks_of asks.old.items ≡ plain_ask q ∷ asks_of asks.new.items) }
 {
     match asks.pop() {
@@ -33,7 +33,7 @@ fn pop_ask(asks: &mut Vec<Ask>) -> Result<Ask, AllocError>
 
 /// Puts what is asked in these roles on top, the first role last.
 #[tactic(auto, using(crate::proofs::Stacks::stacks))]
-fn push_asks(asks: &mut Vec<Ask>, ask: Ask, roles: &[Role]) -> Result<(), AllocError>
+pub(crate) fn push_asks(asks: &mut Vec<Ask>, ask: Ask, roles: &[Role]) -> Result<(), AllocError>
     ensures { OnOk result (asks_of asks.new.items ≡ map (at_least.ask_by (plain_ask ask)) (plain_roles roles.now) ++ asks_of asks.old.items) }
 {
     for i in (0..roles.len()).rev() {
@@ -67,7 +67,7 @@ fn ask_before_action(asks: &mut Vec<Ask>, action: Action) -> Result<(), AllocErr
 }
 
 /// Back over a symbol, whatever it derives.
-fn ask_before(asks: &mut Vec<Ask>, symbol: Symbol) -> Result<(), AllocError>
+pub(crate) fn ask_before(asks: &mut Vec<Ask>, symbol: Symbol) -> Result<(), AllocError>
     ensures { OnOk result (at_least.before_symbol (plain_symbol symbol) (asks_of asks.old.items) ≡ Some (asks_of asks.new.items)) }
 {
     match symbol {
@@ -149,7 +149,7 @@ fn aim_before_action(aims: &mut Vec<Aim>, action: Action) -> Result<bool, AllocE
 }
 
 /// Back over a symbol, whatever it derives.
-fn aim_before(aims: &mut Vec<Aim>, symbol: Symbol) -> Result<bool, AllocError>
+pub(crate) fn aim_before(aims: &mut Vec<Aim>, symbol: Symbol) -> Result<bool, AllocError>
     ensures aims { OnOk result (aiming.aims_symbol (plain_symbol symbol) (aims_of aims.old.items) ≡ Some (aims_of aims.new.items)) }
     ensures never { IfOk result (λ never. has_never (aims_of aims.old.items) ≡ false → never ≡ has_never (aims_of aims.new.items)) }
 {
