@@ -8,6 +8,7 @@ use Rattle.py_syntax.specs.Build.{Parts}
 use Rattle.py_syntax.specs.Table.{Symbol}
 use Rattle.py_nesting.specs.Depths.{here, body_depth}
 use Rattle.py_nesting.specs.First.{first_of}
+use Rattle.py_nesting.specs.Ordered.{is_layout_kind}
 use Rattle.py_nesting.specs.Outlines.{Event, built}
 use Rattle.py_nesting.specs.Shapes.{TokenShape, ExprShape, SignShape, LoopShape, LoopTargetShape, TargetsShape, ClassShape, StmtShape, BodyShape, Entry, entry, entries_of, outlines_of}
 use Rattle.py_nesting.specs.TooDeep.{same_place, stands_among, IsTooDeepInFront}
@@ -15,7 +16,7 @@ use Rattle.py_nesting.specs.Walk.{Demand, Nothing, Whole, Inside, Assigned, Insi
 use Rattle.py_nesting.proofs.FirstFound.{IsDeepAmong, is_least, none_found}
 use Rattle.py_nesting.proofs.WalkCounts.{walk_counts}
 use Rattle.py_demands.specs.Asks.{of_outlines, place_of, avoids, entry_depth, tokens_depth}
-use Rattle.py_demands.specs.Behind.{is_layout_kind, heads, drops_first, Behind}
+use Rattle.py_demands.specs.Behind.{heads, drops_first, Behind}
 use Rattle.py_demands.specs.Bound.{standing}
 use Rattle.py_demands.specs.Decided.{IsNoDeeper, InModules}
 use Rattle.py_demands.specs.FrontDepth.{IsFirstInFront, AreApart, entry_met, tokens_met, front_met, FirstLaw}

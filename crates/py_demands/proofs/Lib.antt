@@ -23,6 +23,7 @@ mod LowRows
 mod Lower
 mod Made
 mod Ordered
+mod OrderedFronts
 mod Paired
 mod Passing
 pub mod ReadItems

@@ -13,13 +13,14 @@ use Rattle.py_tokens.specs.Token.{Place}
 use Rattle.py_nesting.specs.Outlines.{built}
 use Rattle.py_nesting.specs.Shapes.{outlines_of}
 use Rattle.py_nesting.specs.Effects.{effect, after_all}
+use Rattle.py_nesting.specs.Ordered.{is_layout_kind}
 use Rattle.py_nesting.specs.Walk.{Whole}
 use Rattle.py_nesting.proofs.EffectsKept.{effects_kept}
 use Rattle.py_fronts.proofs.FrontsReached.{at_beginning, over_action, over_token, over_row}
 use Rattle.py_nesting.proofs.EventsAdded.{built_more}
 use Rattle.py_demands.specs.Asks.{place_of, avoids}
 use Rattle.py_demands.specs.Least.{Ask, AtLeast, before, least, may_ask_first, are_askable}
-use Rattle.py_demands.specs.Behind.{is_layout_kind, heads, is_once, drops_first, drop_layout, Behind}
+use Rattle.py_demands.specs.Behind.{heads, is_once, drops_first, drop_layout, Behind}
 use Rattle.py_demands.specs.Order.{IsAway, IsLone}
 use Rattle.py_demands.specs.Steps.{Beginning, OverAction, OverToken, OverRow, StepsLaw}
 use Rattle.py_demands.proofs.LowRows.{low_row, least_frame, least_joined, askable_joined}

@@ -1,5 +1,5 @@
 -- Where the run stands behind a front, with what is asked there.
-use Rattle.std.specs.Prelude.{◌≡◌, ℕ, Bool, true, false, not, ◌&&◌, ◌||◌, ◌==◌, if◌then◌else◌, List, [], ◌∷◌, ◌++◌, Some, ◌⊎◌}
+use Rattle.std.specs.Prelude.{◌≡◌, Bool, true, false, not, ◌&&◌, ◌||◌, if◌then◌else◌, List, [], ◌∷◌, ◌++◌, Some, ◌⊎◌}
 use Rattle.grammars.specs.Grammar.{Tok, Non, Do}
 use Rattle.grammars.specs.Sets.{have_specimens}
 use Rattle.py_tokens.specs.Token.{Place}
@@ -7,16 +7,13 @@ use Rattle.py_syntax.specs.Token.{Token}
 use Rattle.py_syntax.specs.Kinds.{kind_of}
 use Rattle.py_syntax.specs.Build.{PToken, Parts, Drop}
 use Rattle.py_syntax.specs.Table.{Symbol, table, sets}
+use Rattle.py_nesting.specs.Ordered.{is_layout_kind}
 use Rattle.py_nesting.specs.Walk.{Demand, Whole}
 use Rattle.py_fronts.specs.AtFront.{AtFront}
 use Rattle.py_demands.specs.Asks.{place_of, avoids}
 use Rattle.py_demands.specs.Least.{Ask, AtLeast, least, are_askable}
 use Rattle.py_demands.specs.Closing.{exactly}
 use Rattle.py_demands.specs.Order.{IsAway, IsLone}
-
--- NEWLINE, INDENT and DEDENT, by their numbers: no node stands at one, and several may stand at one place with another token
-abbrev pub is_layout_kind : ℕ → Bool
-is_layout_kind k = k == 8 || (k == 9 || k == 10)
 
 -- the tokens at which a node may stand
 abbrev pub heads : List Token → List Token

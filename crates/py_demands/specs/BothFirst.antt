@@ -6,6 +6,7 @@ use Rattle.py_syntax.specs.Token.{Token}
 use Rattle.py_syntax.specs.Heights.{most_ancestors}
 use Rattle.py_syntax.specs.Build.{Parts}
 use Rattle.py_syntax.specs.Table.{Symbol}
+use Rattle.py_nesting.specs.Ordered.{AreOrdered}
 use Rattle.py_nesting.specs.Outlines.{Event, built}
 use Rattle.py_nesting.specs.Shapes.{entries_of, outlines_of}
 use Rattle.py_nesting.specs.TooDeep.{same_place, stands_among}
@@ -71,3 +72,7 @@ BothFoundLaw =
     → built events ≡ Some (outlines_of v) → InModules front symbols (λ at body. IsNoDeeper at v us body ⊎ IsNoDeeper at v ws body)
     → ((p : Place) → IsReached front v us p) → ((p : Place) → IsReached front v ws p)
     → IsFirstInFront (first_in_both (front_met (entries_of v) events us) (front_met (entries_of v) events ws) front) front
+
+-- Both hold of tokens in the order of the text.
+abbrev pub OrderedFrontLaw : Type 0
+OrderedFrontLaw = (front : List Token) → AreOrdered front → AreApart front × AreInOrder front

@@ -11,7 +11,7 @@
 ghost use Rattle.py_demands.specs.Agreed.{LeastLaw};
 ghost use Rattle.py_demands.specs.Aimed.{ItemLaw};
 ghost use Rattle.py_demands.specs.Bound.{LowerLaw, ClosingLaw};
-ghost use Rattle.py_demands.specs.BothFirst.{BothFirstLaw, BothFoundLaw};
+ghost use Rattle.py_demands.specs.BothFirst.{BothFirstLaw, BothFoundLaw, OrderedFrontLaw};
 ghost use Rattle.py_demands.specs.Decided.{EitherLaw, WholeLaw, BothLaw};
 ghost use Rattle.py_demands.specs.FrontDepth.{FirstLaw};
 ghost use Rattle.py_demands.specs.ItemSteps.{ItemStepsLaw};
@@ -148,4 +148,9 @@ pub fn the_first_node_too_deep_in_both_readings_is_met()
 /// Where the tokens are in order, that place is found by going over them.
 pub fn the_first_node_too_deep_in_both_readings_is_found_by_tokens()
     ensures law { BothFoundLaw }
+{}
+
+/// Tokens in the order of the text have places of their own, but for layout, and none stands before an earlier one.
+pub fn tokens_in_order_are_apart()
+    ensures law { OrderedFrontLaw }
 {}

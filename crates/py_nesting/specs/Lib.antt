@@ -1,5 +1,6 @@
 pub mod Depths
 pub mod TooDeep
+pub mod Ordered
 pub mod Forms
 pub mod Outlines
 pub mod TreeOutlines

@@ -5,3 +5,4 @@ pub mod Lexeme
 pub mod Lines
 pub mod Tokens
 pub mod Names
+pub mod Ordered
