@@ -16,7 +16,7 @@ use std::alloc::{AllocError, Global};
 const MOST_ANCESTORS: u32 = 100;
 
 /// What is asked of an outline: so many nodes stand above it.
-#[derive(Clone, Copy, Debug)]
+#[derive(Clone, Copy, Debug, PartialEq, Eq)]
 pub enum Demand {
     Nothing,
     Whole(u32),

@@ -3,3 +3,4 @@ mod Entries
 mod Standing
 mod ReadBack
 mod NotedDepths
+mod FrontDecided

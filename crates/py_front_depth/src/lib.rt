@@ -5,6 +5,7 @@ mod aim;
 mod ask;
 mod demands;
 mod depths;
+mod front;
 mod leasts;
 mod nodes;
 mod reach;
@@ -12,3 +13,5 @@ mod reading;
 mod readings;
 mod role;
 mod roles;
+
+pub use front::find_depth_in_front;
