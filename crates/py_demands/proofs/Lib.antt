@@ -23,7 +23,7 @@ mod LowRows
 mod Lower
 mod Made
 mod Ordered
-mod OrderedFronts
+pub mod OrderedFronts
 mod Paired
 mod Passing
 mod ReadItems
