@@ -4,4 +4,4 @@ mod NumberVectors
 mod TextVectors
 mod SignVectors
 mod LineVectors
-mod TokensOrdered
+pub mod TokensOrdered

@@ -7,3 +7,4 @@ pub mod HeadlineVectors
 mod RunVectors
 pub mod FaultsExcluded
 mod OutcomeVectors
+pub mod GrammarOrdered

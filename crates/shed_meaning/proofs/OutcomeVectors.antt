@@ -1,13 +1,12 @@
 -- What some runs of the command come to, and what they cannot come to.
-use Rattle.std.proofs.Common.{◌≡◌, ℕ, zero, suc, ◌<◌, ◌≤◌, List, [], ◌∷◌, length, take, drop, Option, Some, None, inl, inr, refl, sym, ap, ◌∙◌, ◌++◌, replicate, subst, subst₂, codes, lit≤, lit<, true, not-le_of_lt}
+use Rattle.std.proofs.Common.{◌≡◌, ℕ, zero, suc, ◌<◌, ◌≤◌, List, [], ◌∷◌, length, take, drop, Option, Some, None, inl, inr, refl, sym, ap, ◌∙◌, ◌++◌, replicate, subst, codes, lit≤, lit<, true, not-le_of_lt}
 use Rattle.std.specs.Prelude.{option_map}
 use Rattle.std.specs.Fmt.{digits}
 use Rattle.std.specs.FinMap as map
-use Rattle.std.proofs.lemmas.List.{length-take-le, take-append-drop}
+use Rattle.std.proofs.lemmas.List.{length-take-le}
 use Rattle.runs.specs.Number.{W32}
 use Rattle.py_tokens.specs.Token.{Place, BadCharacter, TooLong, Tokens}
 use Rattle.py_tokens.specs.Tokens.{tokens_of_characters, beginning, unmarked}
-use Rattle.py_syntax.specs.Token.{Token, TFloat, TNumber}
 use Rattle.py_syntax.specs.Laws.{IsLongestFront}
 use Rattle.py_constructs.specs.Construct.{Construct, Float, constructs}
 use Rattle.py_constructs.specs.Search.{best}

@@ -6,3 +6,4 @@ pub mod Words
 pub mod TokenText
 pub mod Fault
 pub mod Outcome
+pub mod Ordered
