@@ -39,10 +39,12 @@ pub fn find_depth_in_front(
     };
     let whole = closing_demands(alloc, &reached.symbols)?;
     let Some(targets) = read_as_targets(alloc, &reached.symbols, &reached.nest.entries)? else {
-        return first_too_deep(alloc, &reached.nest, &whole);
+        let first = first_too_deep(alloc, &reached.nest, &whole)?;
+        return Ok(first);
     };
     if are_same(&whole, &targets) {
-        return first_too_deep(alloc, &reached.nest, &whole);
+        let first = first_too_deep(alloc, &reached.nest, &whole)?;
+        return Ok(first);
     }
     let depths = note_all(alloc, &reached.nest, &whole)?;
     let others = note_all(alloc, &reached.nest, &targets)?;

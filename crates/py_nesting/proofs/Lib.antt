@@ -7,3 +7,4 @@ pub mod EventsAdded
 pub mod EffectsKept
 pub mod WalkCounts
 pub mod FirstFound
+pub mod FrontsOrdered

@@ -1,11 +1,12 @@
 -- The tokens of a text as the grammar sees them stand in its order, and so do those of a front.
-use Rattle.std.proofs.Common.{◌≡◌, ℕ, zero, suc, false, List, [], ◌∷◌, map, take, refl}
+use Rattle.std.proofs.Common.{◌≡◌, false, List, [], ◌∷◌, map, refl}
 use Rattle.py_tokens.specs.Token as texts
 use Rattle.py_tokens.specs.Ordered as texts_order
 use Rattle.py_tokens.proofs.TokensOrdered.{tokens_are_ordered}
 use Rattle.py_syntax.specs.Token.{Token}
 use Rattle.py_syntax.specs.Kinds.{number_of}
 use Rattle.py_nesting.specs.Ordered.{is_layout_kind, IsBefore, AreOrdered}
+use Rattle.py_nesting.proofs.FrontsOrdered.{ordered_front}
 use Rattle.py_meaning.specs.Name.{Name}
 use Rattle.py_meaning.specs.Source.{names_of, numbered_kind, numbered}
 use Rattle.shed_meaning.specs.Ordered.{GrammarOrderedLaw}
@@ -32,18 +33,6 @@ before_numbered names t (u ∷ ts) b = (b.0, (λ i j. b.1 (no_layout names t.kin
 ordered_numbered : (names : List Name) (ts : List texts.Token) → texts_order.AreOrdered ts → AreOrdered (map (numbered names) ts)
 ordered_numbered names [] o = tt
 ordered_numbered names (t ∷ ts) o = (before_numbered names t ts o.0, ordered_numbered names ts o.1)
-
-before_front : (t : Token) (count : ℕ) (ts : List Token) → IsBefore t ts → IsBefore t (take count ts)
-before_front t zero [] b = tt
-before_front t (suc count) [] b = tt
-before_front t zero (u ∷ ts) b = tt
-before_front t (suc count) (u ∷ ts) b = (b.0, b.1, before_front t count ts b.2)
-
-pub ordered_front : (count : ℕ) (ts : List Token) → AreOrdered ts → AreOrdered (take count ts)
-ordered_front zero [] o = tt
-ordered_front (suc count) [] o = tt
-ordered_front zero (t ∷ ts) o = tt
-ordered_front (suc count) (t ∷ ts) o = (before_front t count ts o.0, ordered_front count ts o.1)
 
 pub grammar_tokens_are_ordered : GrammarOrderedLaw
 grammar_tokens_are_ordered = ((λ n w text ts e. ordered_numbered (names_of ts) ts (tokens_are_ordered n w text ts e)), ordered_front)
