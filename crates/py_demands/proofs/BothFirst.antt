@@ -9,14 +9,14 @@ use Rattle.py_syntax.specs.Table.{Symbol}
 use Rattle.py_nesting.specs.Depths.{body_depth}
 use Rattle.py_nesting.specs.Outlines.{Event, built}
 use Rattle.py_nesting.specs.Shapes.{entries_of, outlines_of}
-use Rattle.py_nesting.specs.TooDeep.{same_place, stands_among, HasNode, IsTooDeepAt, GoesOnAs, IsTooDeepInFront}
+use Rattle.py_nesting.specs.TooDeep.{same_place, stands_among, HasNode, IsTooDeepAt, GoesOnAs, IsTooDeepInFront, IsFirstInFront}
 use Rattle.py_nesting.specs.Walk.{Demand, met_depth}
 use Rattle.py_demands.specs.Asks.{avoids}
 use Rattle.py_demands.specs.Behind.{heads, drops_first, Behind}
 use Rattle.py_demands.specs.BothFirst.{IsMetAt, IsDeepAt, IsDeepInBoth, IsFirstInBoth, BothFirstLaw}
 use Rattle.py_demands.specs.Bound.{standing}
 use Rattle.py_demands.specs.Decided.{IsNoDeeper, InModules}
-use Rattle.py_demands.specs.FrontDepth.{IsFirstInFront, AreApart, front_met}
+use Rattle.py_demands.specs.FrontDepth.{AreApart, front_met}
 use Rattle.py_demands.specs.Order.{IsAway}
 use Rattle.py_demands.specs.Turning.{IsReached}
 use Rattle.py_demands.proofs.Agreed.{kept_so}

@@ -11,7 +11,7 @@ use Rattle.py_nesting.specs.First.{first_of}
 use Rattle.py_nesting.specs.Ordered.{is_layout_kind}
 use Rattle.py_nesting.specs.Outlines.{Event, built}
 use Rattle.py_nesting.specs.Shapes.{TokenShape, ExprShape, SignShape, LoopShape, LoopTargetShape, TargetsShape, ClassShape, StmtShape, BodyShape, Entry, entry, entries_of, outlines_of}
-use Rattle.py_nesting.specs.TooDeep.{same_place, stands_among, IsTooDeepInFront}
+use Rattle.py_nesting.specs.TooDeep.{same_place, stands_among, IsTooDeepInFront, IsFirstInFront}
 use Rattle.py_nesting.specs.Walk.{Demand, Nothing, Whole, Inside, Assigned, InsideAssigned, Met, raise, walk, met_depth}
 use Rattle.py_nesting.proofs.FirstFound.{IsDeepAmong, is_least, none_found}
 use Rattle.py_nesting.proofs.WalkCounts.{walk_counts}
@@ -19,7 +19,7 @@ use Rattle.py_demands.specs.Asks.{of_outlines, place_of, avoids, entry_depth, to
 use Rattle.py_demands.specs.Behind.{heads, drops_first, Behind}
 use Rattle.py_demands.specs.Bound.{standing}
 use Rattle.py_demands.specs.Decided.{IsNoDeeper, InModules}
-use Rattle.py_demands.specs.FrontDepth.{IsFirstInFront, AreApart, entry_met, tokens_met, front_met, FirstLaw}
+use Rattle.py_demands.specs.FrontDepth.{AreApart, entry_met, tokens_met, front_met, FirstLaw}
 use Rattle.py_demands.specs.Order.{IsAway}
 use Rattle.py_demands.specs.Turning.{IsReached}
 use Rattle.py_demands.proofs.Agreed.{kept_so}

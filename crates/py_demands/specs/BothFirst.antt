@@ -9,12 +9,12 @@ use Rattle.py_syntax.specs.Table.{Symbol}
 use Rattle.py_nesting.specs.Ordered.{AreOrdered}
 use Rattle.py_nesting.specs.Outlines.{Event, built}
 use Rattle.py_nesting.specs.Shapes.{entries_of, outlines_of}
-use Rattle.py_nesting.specs.TooDeep.{same_place, stands_among}
+use Rattle.py_nesting.specs.TooDeep.{same_place, stands_among, IsFirstInFront}
 use Rattle.py_nesting.specs.Walk.{Demand, Met, met_depth}
 use Rattle.py_demands.specs.Asks.{place_of}
 use Rattle.py_demands.specs.Behind.{drops_first, Behind}
 use Rattle.py_demands.specs.Decided.{IsNoDeeper, InModules}
-use Rattle.py_demands.specs.FrontDepth.{IsFirstInFront, AreApart, front_met}
+use Rattle.py_demands.specs.FrontDepth.{AreApart, front_met}
 use Rattle.py_demands.specs.Turning.{IsReached}
 
 -- some node is met there

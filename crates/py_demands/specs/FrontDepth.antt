@@ -8,17 +8,12 @@ use Rattle.py_syntax.specs.Table.{Symbol}
 use Rattle.py_nesting.specs.First.{first_of}
 use Rattle.py_nesting.specs.Outlines.{Plain, Event, built}
 use Rattle.py_nesting.specs.Shapes.{TokenShape, SignShape, Entry, entry, entries_of, outlines_of}
-use Rattle.py_nesting.specs.TooDeep.{same_place, IsTooDeepInFront}
+use Rattle.py_nesting.specs.TooDeep.{same_place, IsFirstInFront}
 use Rattle.py_nesting.specs.Walk.{Demand, Met, met, comes, walk}
 use Rattle.py_demands.specs.Asks.{of_outlines}
 use Rattle.py_demands.specs.Behind.{heads, is_once, drops_first, Behind}
 use Rattle.py_demands.specs.Decided.{IsNoDeeper, InModules}
 use Rattle.py_demands.specs.Turning.{IsReached}
-
--- no place of a front is nested too deep, or the first that is stands here
-abbrev pub IsFirstInFront : Option Place → List Token → Type 0
-IsFirstInFront None front = (p : Place) → IsTooDeepInFront p front → ⊥
-IsFirstInFront (Some p) front = IsTooDeepInFront p front × ((q : Place) → IsTooDeepInFront q front → is_before q p ≡ false)
 
 -- tokens at which nodes may stand have places of their own
 abbrev pub AreApart : List Token → Type 0

@@ -8,6 +8,7 @@ use Rattle.py_tokens.specs.Token.{Place}
 use Rattle.py_syntax.specs.Token.{Token}
 use Rattle.py_syntax.specs.Build.{Parts}
 use Rattle.py_syntax.specs.Table as meaning
+use Rattle.py_nesting.specs.TooDeep.{IsFirstInFront}
 use Rattle.py_nesting.specs.First.{first_of}
 use Rattle.py_nesting.specs.Ordered.{AreOrdered}
 use Rattle.py_nesting.specs.Outlines.{built}
@@ -18,7 +19,7 @@ use Rattle.py_demands.specs.Behind.{drops_first, Behind}
 use Rattle.py_demands.specs.BothFirst.{first_in_both}
 use Rattle.py_demands.specs.Closing.{exactly}
 use Rattle.py_demands.specs.Decided.{IsNoDeeper, InModules}
-use Rattle.py_demands.specs.FrontDepth.{IsFirstInFront, front_met}
+use Rattle.py_demands.specs.FrontDepth.{front_met}
 use Rattle.py_demands.specs.Readings.{acts_first, targets_reading}
 use Rattle.py_demands.specs.Turning.{IsReached}
 use Rattle.py_demands.proofs.BothFound.{both_found_law}

@@ -1,8 +1,8 @@
 //! The first place where a front of a module is nested too deep.
 
 ghost use Rattle.std.specs.Prelude.{◌≡◌, true, IfOk};
+ghost use Rattle.py_nesting.specs.TooDeep.{IsFirstInFront};
 ghost use Rattle.py_nesting.specs.Ordered.{AreOrdered};
-ghost use Rattle.py_demands.specs.FrontDepth.{IsFirstInFront};
 ghost use Rattle.py_table.specs.PlainTokens.{plain_tokens};
 ghost use Rattle.py_depth.specs.PlainDemands.{plain_first};
 

@@ -1,5 +1,5 @@
 -- Where a module is nested too deep.
-use Rattle.std.specs.Prelude.{◌≡◌, suc, ◌<◌, Bool, true, false, ◌&&◌, ◌==◌, List, ◌++◌, ◌↔◌}
+use Rattle.std.specs.Prelude.{◌≡◌, suc, ◌<◌, Bool, true, false, ◌&&◌, ◌==◌, List, ◌++◌, ◌↔◌, Option, Some, None}
 use Rattle.std.specs.List.{list_any}
 use Rattle.py_tokens.specs.Token.{Place}
 use Rattle.py_tokens.specs.Places.{is_before}
@@ -46,3 +46,12 @@ abbrev pub IsTooDeepInFront : Place → List Token → Type 0
 IsTooDeepInFront p front =
     (stands_among front p ≡ true) × ((body : Body) × GoesOnAs front body × HasNode p body)
     × ((body : Body) → GoesOnAs front body → HasNode p body → IsTooDeepAt p body)
+
+-- no place of a front is nested too deep, or the first that is stands here
+abbrev pub IsFirstInFront : Option Place → List Token → Type 0
+IsFirstInFront None front = (p : Place) → IsTooDeepInFront p front → ⊥
+IsFirstInFront (Some p) front = IsTooDeepInFront p front × ((q : Place) → IsTooDeepInFront q front → is_before q p ≡ false)
+
+-- what is nested too deep stands behind this place
+abbrev pub IsShallowTo : Place → List Token → Type 0
+IsShallowTo p front = (q : Place) → IsTooDeepInFront q front → is_before p q ≡ true

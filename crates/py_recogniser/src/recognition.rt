@@ -4,11 +4,14 @@ ghost use Rattle.std.specs.Prelude.{ℕ, ◌≡◌, List, IfOk, IfErr, OnOk};
 ghost use Rattle.py_lexer.specs.PlainTokens.{plain_place, plain_kind as text_kind, plain_tokens as text_tokens};
 ghost use Rattle.py_table.specs.PlainTokens.{plain_kind, plain_tokens};
 ghost use Rattle.py_depth.specs.Found.{IsRest};
+ghost use Rattle.py_depth.specs.PlainDemands.{plain_first};
 ghost use Rattle.py_recogniser.specs.Recognised.{IsRecognised};
-ghost use Rattle.py_recogniser.specs.Refused.{last_place, IsFound, IsParseRefused};
+ghost use Rattle.py_recogniser.specs.Refused.{last_place, no_later as no_later_of, IsFound, IsParseRefused};
 
 use crate::refusal::{Found, ParseRefusal};
 use py_depth::{Depth, find_depth};
+use py_front_depth::find_depth_in_front;
+use py_lexer::is_before;
 use py_lexer::token::{Token, TokenKind};
 use py_outside::find_outside;
 use shed_base::{Names, Place};
@@ -64,7 +67,18 @@ fn found(alloc: Global, tokens: &[Token], rest: &[Token]) -> Result<(Place, Foun
     }
 }
 
-/// Why tokens are no module, where this is their rest behind the longest front of one.
+/// The first place, if it stands no later than the other.
+fn no_later(first: Option<Place>, place: Place) -> Option<Place>
+    ensures { plain_first result ≡ no_later_of (plain_first first) (plain_place place) }
+{
+    match first {
+        Some(deep) if !is_before(place, deep) => Some(deep),
+        _ => None,
+    }
+}
+
+/// Why tokens are no module, where this is their rest behind the longest front of one: what stands there, or a place of the front that
+/// is nested too deep, if that stands no later.
 fn refusal_at(
     alloc: Global,
     tokens: &[Token],
@@ -76,19 +90,27 @@ fn refusal_at(
     let Some(count) = tokens.len().checked_sub(rest.len()) else {
         return Err(AllocError);
     };
-    let (_, behind) = tokens.split_at(count);
+    let (front, behind) = tokens.split_at(count);
+    let first = find_depth_in_front(alloc, front, names)?;
     if let Some((construct, place)) = find_outside(alloc, tokens, count, names)? {
-        return Ok(ParseRefusal::Outside(place, construct));
+        return match no_later(first, place) {
+            Some(deep) => Ok(ParseRefusal::TooDeep(deep)),
+            None => Ok(ParseRefusal::Outside(place, construct)),
+        };
     }
     let (place, found) = found(alloc, tokens, behind)?;
-    Ok(ParseRefusal::Unexpected(place, found))
+    match no_later(first, place) {
+        Some(deep) => Ok(ParseRefusal::TooDeep(deep)),
+        None => Ok(ParseRefusal::Unexpected(place, found)),
+    }
 }
 
 /// Whether tokens are a module; names among the tokens stand for the texts of `names`.
 ///
 /// Fails with the first token with which no front of a module goes on, or with the construct outside the profile that stands in
-/// its place; where a node of the tree has more than 100 others above it; and with `NoMemory` where memory runs out. The Python
-/// reference's "Full Grammar specification", cut to the profile, is the grammar.
+/// its place; where a node has more than 100 others above it, in the tree or, where there is none, in each module that begins with the
+/// longest front and has a node there, if that place comes no later; and with `NoMemory` where memory runs out. The Python reference's
+/// "Full Grammar specification", cut to the profile, is the grammar.
 pub fn recognise(alloc: Global, tokens: &[Token], names: &Names) -> Result<(), ParseRefusal>
     ensures recognised { OnOk result (IsRecognised (plain_tokens names.now tokens.now)) }
     ensures refused { IfErr result (IsParseRefused names.now tokens.now) }

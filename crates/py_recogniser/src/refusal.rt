@@ -26,7 +26,8 @@ pub enum ParseRefusal {
     /// A construct outside the profile stands in place of such a token; its head has this place.
     #[error("construct outside the profile")]
     Outside(Place, Construct),
-    /// The first place by line and column where a node of the tree has more than 100 others above it.
+    /// The first place by line and column where a node has more than 100 others above it: one of the tree, or, where there is none, one
+    /// that has so many in each module that begins with the longest front and has a node there.
     #[error("nested too deep")]
     TooDeep(Place),
     #[error("out of memory")]

@@ -40,11 +40,14 @@ no_fault text body (Unexpected p said) s h =
 no_fault text body (Outside p c) s h =
     let same = same_tokens _ s.read.tokens h.0 s.read.lexed h.1 in
     no_module_at (grammar_tokens h.0) h.2.count s.tree (subst (λ (ts : List TextToken). IsModule s.tree (grammar_tokens ts)) same s.read.spelt) h.2.longest
-no_fault text body (TooDeep p) s h =
+no_fault text body (TooDeep p) s (inl h) =
     let same = same_tokens _ s.read.tokens h.tokens s.read.lexed h.lexed in
     let tree : s.tree ≡ h.tree =
     one_tree s.tree h.tree (grammar_tokens h.tokens) (subst (λ (ts : List TextToken). IsModule s.tree (grammar_tokens ts)) same s.read.spelt) h.spelt in
     (shallow_law h.tree).0 (subst IsShallow tree s.read.shallow) p h.first.0
+no_fault text body (TooDeep p) s (inr h) =
+    let same = same_tokens _ s.read.tokens h.tokens s.read.lexed h.lexed in
+    no_module_at (grammar_tokens h.tokens) h.count s.tree (subst (λ (ts : List TextToken). IsModule s.tree (grammar_tokens ts)) same s.read.spelt) h.longest
 no_fault text body (Unbuilt p) s h =
     let same = same_tokens _ s.read.tokens h.2.tokens s.read.lexed h.2.lexed in
     let tree : s.tree ≡ h.0 =

@@ -1,5 +1,5 @@
 -- Why the text of a module is not translated: no tokens, no tree, a tree that is too deep, or one that isn't built.
-use Rattle.std.specs.Prelude.{◌≡◌, ℕ, List, [], ◌∷◌, ◌++◌, take, drop, Some, None, codes}
+use Rattle.std.specs.Prelude.{◌≡◌, ℕ, false, List, [], ◌∷◌, ◌++◌, take, drop, Some, None, ◌⊎◌, codes}
 use Rattle.std.specs.Fmt.{decimal}
 use Rattle.runs.specs.Number.{W32}
 use Rattle.py_tokens.specs.Token.{Place, Refusal, NotUtf8, BadCharacter, BadIndent, MixedTabs, UnclosedText, UnclosedBracket, BadEscape, WideNumber, NonAsciiText, NotNormal, TooLong, Token, Tokens, Refused}
@@ -7,7 +7,8 @@ use Rattle.py_tokens.specs.Tokens.{tokens_of}
 use Rattle.py_syntax.specs.Tree as whole
 use Rattle.py_syntax.specs.Grammar.{IsModule}
 use Rattle.py_syntax.specs.Laws.{IsLongestFront}
-use Rattle.py_nesting.specs.TooDeep.{IsFirstTooDeep}
+use Rattle.py_tokens.specs.Places.{is_before}
+use Rattle.py_nesting.specs.TooDeep.{IsFirstTooDeep, IsFirstInFront, IsShallowTo}
 use Rattle.py_constructs.specs.Construct.{Construct, construct_text}
 use Rattle.py_constructs.specs.Standing.{finding, IsFinding}
 use Rattle.py_meaning.specs.Name.{Name, text_of}
@@ -22,7 +23,8 @@ pub data Fault : Type 0 where
   Unexpected : (place : Place) → (said : List ℕ) → Fault
   -- in place of such a token a construct outside the profile stands, whose head has this place
   Outside : (place : Place) → (construct : Construct) → Fault
-  -- the first place by place where a node of its tree has too many others above it
+  -- the first place by place where a node has too many others above it: one of its tree, or where it has none one that stands so deep in
+  -- each module that goes on as it does
   TooDeep : (place : Place) → Fault
   -- the first place by place that isn't built
   Unbuilt : (place : Place) → Fault
@@ -65,12 +67,23 @@ pub record IsTooDeep (text : List ℕ) (p : Place) : Type 0 where
   pub spelt : IsModule tree (grammar_tokens tokens)
   pub first : IsFirstTooDeep p tree
 
--- the text has this fault
+-- in a text that is no module, a place of the longest front that is nested too deep first, no later than where it is refused else
+pub record IsDeepInFront (text : List ℕ) (p : Place) : Type 0 where
+  pub tokens : List Token
+  pub lexed : tokens_of 0 W32 text ≡ Tokens tokens
+  pub count : ℕ
+  pub longest : IsLongestFront (take count (grammar_tokens tokens)) (drop count (grammar_tokens tokens))
+  pub first : IsFirstInFront (Some p) (take count (grammar_tokens tokens))
+  pub place : Place
+  pub refused : ((said : List ℕ) × IsUnexpected tokens place said) ⊎ ((c : Construct) × IsOutside tokens place c)
+  pub no_later : is_before place p ≡ false
+
+-- the text has this fault; nothing is nested too deep before what is unexpected or outside, nor at it
 abbrev pub HasFault : List ℕ → Fault → Type 0
 HasFault text (BadToken r p) = tokens_of 0 W32 text ≡ Refused r p
-HasFault text (Unexpected p said) = (ts : List Token) × (tokens_of 0 W32 text ≡ Tokens ts) × IsUnexpected ts p said
-HasFault text (Outside p c) = (ts : List Token) × (tokens_of 0 W32 text ≡ Tokens ts) × IsOutside ts p c
-HasFault text (TooDeep p) = IsTooDeep text p
+HasFault text (Unexpected p said) = (ts : List Token) × (tokens_of 0 W32 text ≡ Tokens ts) × (u : IsUnexpected ts p said) × IsShallowTo p (take u.count (grammar_tokens ts))
+HasFault text (Outside p c) = (ts : List Token) × (tokens_of 0 W32 text ≡ Tokens ts) × (o : IsOutside ts p c) × IsShallowTo p (take o.count (grammar_tokens ts))
+HasFault text (TooDeep p) = IsTooDeep text p ⊎ IsDeepInFront text p
 HasFault text (Unbuilt p) = (tree : whole.Body) × (names : List Name) × IsText text tree names × (first_place (unbuilt names [] tree) ≡ Some p)
 
 -- a name that is too long passes a limit, and no other reason of the lexer does
