@@ -1,18 +1,14 @@
 -- What is asked behind small fronts, worked out by hand: at least, where the front is closed, and how deep its nodes stand there.
-use Rattle.std.proofs.Common.{◌≡◌, ℕ, zero, suc, true, ◌==◌, if◌then◌else◌, List, [], ◌∷◌, ◌++◌, map, Option, Some, None, refl}
-use Rattle.grammars.specs.Grammar.{Tok, Non, Do, Row, sight}
-use Rattle.grammars.specs.Run.{pick}
+use Rattle.std.proofs.Common.{◌≡◌, ℕ, true, List, [], ◌∷◌, map, Option, Some, None, refl}
 use Rattle.py_tokens.specs.Token.{Place}
 use Rattle.py_syntax.specs.Token.{TName, TKeyword, TOperator, TNumber, TNewline, TIndent, Token, At}
-use Rattle.py_syntax.specs.Kinds.{kind_of}
-use Rattle.py_syntax.specs.Build.{PToken, Parts, Action, act}
-use Rattle.py_syntax.specs.Table.{Symbol, Nonterminal, table, sets}
-use Rattle.py_syntax.specs.Laws.{goal, start}
+use Rattle.py_syntax.specs.Build.{Parts}
 use Rattle.py_nesting.specs.TooDeep.{same_place}
 use Rattle.py_nesting.specs.Walk.{Demand, Nothing, Whole, Inside}
 use Rattle.py_demands.specs.Least.{Ask, NoNode, AtLeast, WithinAtLeast, OpenAtLeast, least}
 use Rattle.py_demands.specs.Closing.{exactly}
 use Rattle.py_demands.specs.Bound.{standing}
+pub use Rattle.py_demands.specs.Stops.{Stop, nowhere, stop, behind}
 
 abbrev pub spot : ℕ → Place
 spot c = record { «module» = 0; line = 1; column = c }
@@ -55,24 +51,6 @@ equals c = operator c 61
 abbrev pub colon : ℕ → Token
 colon c = operator c 58
 
--- where the run stands when no token is left
-pub data Stop : Type 0 where
-  nowhere : Stop
-  stop : (symbols : List Symbol) → (v : Parts) → Stop
-
-abbrev pub expanded : (List Symbol → Stop) → List Symbol → Option (Row Nonterminal Action Parts) → Stop
-expanded go symbols None = nowhere
-expanded go symbols (Some r) = go (r.symbols ++ symbols)
-
-abbrev pub read : ℕ → List Symbol → Parts → List Token → Stop
-read zero symbols v ts = nowhere
-read (suc n) [] v ts = nowhere
-read (suc n) (Do a ∷ symbols) v ts = read n symbols (act a v) ts
-read (suc n) (Tok k ∷ symbols) v [] = stop (Tok k ∷ symbols) v
-read (suc n) (Tok k ∷ symbols) v (t ∷ ts) = if kind_of t == k then read n symbols (PToken t ∷ v) ts else nowhere
-read (suc n) (Non x ∷ symbols) v [] = stop (Non x ∷ symbols) v
-read (suc n) (Non x ∷ symbols) v (t ∷ ts) = expanded (λ (more : List Symbol). read n more v (t ∷ ts)) symbols (pick table sets x v (sight table (t ∷ ts)))
-
 abbrev pub asks_at : Stop → Option (List Ask)
 asks_at nowhere = None
 asks_at (stop symbols v) = least symbols (Some (AtLeast 0 ∷ []))
@@ -88,9 +66,6 @@ depths v (Some ds) columns = map (λ (c : ℕ). standing (same_place (spot c)) v
 abbrev pub depths_at : Stop → List ℕ → List ℕ
 depths_at nowhere columns = []
 depths_at (stop symbols v) columns = depths v (exactly symbols (Some (Whole 0 ∷ []))) columns
-
-abbrev pub behind : List Token → Stop
-behind ts = read 300 goal start ts
 
 -- x = ((
 abbrev brackets : List Token

@@ -71,6 +71,9 @@ one_only [] h = absurd (omega arith)
 one_only (e ∷ []) h = (e, refl)
 one_only (e ∷ (f ∷ es)) h = absurd (omega arith)
 
+joined_one : (es rest : List Entry) (e : Entry) → es ≡ e ∷ [] → es ++ rest ≡ e ∷ rest
+joined_one es rest e h = ap (λ (o : List Entry). o ++ rest) h
+
 fit_expression : (e : Entry) → fits AnExpr e ≡ true → is_expression e ≡ true
 fit_expression (entry (ExprShape f n) p) h = refl
 fit_expression e h = absurd (cc)
@@ -126,7 +129,7 @@ step p (Non x) symbols v below (aim ∷ aims) others ds i c k f e t n h =
     let many : length (map (ask_least (AtLeast 0)) (low x) ++ []) ≡ length (low x) + 0 = asks_many (ask_least (AtLeast 0)) (low x) [] in
     let frame = l.frame parted.0 parted.1 parted.2 (let m = parted.3 in omega arith) in
     let one = one_only frame.0 frame.2 in
-    let turns : Turns 99 p x (entries_of v) (entries_of l.left) = record { taken = parted.0; lower = parted.1; top = one.0; es_are = parted.2; many = parted.3; new_are = frame.1 ∙ ap (λ (o : List Entry). o ++ parted.1) one.1; closed = closed_so l.left l.ends_so } in
+    let turns : Turns 99 p x (entries_of v) (entries_of l.left) = record { taken = parted.0; lower = parted.1; top = one.0; es_are = parted.2; many = parted.3; new_are = frame.1 ∙ joined_one frame.0 parted.1 one.0 one.1; closed = closed_so l.left l.ends_so } in
     let r = closed_found 99 p below x (way x) (entries_of v) (entries_of l.left) aim aims ds turns (and_left (is_inner x) true i) refl (and_left (is_tame aim) (all_tame aims) t) (first_never aim aims n) (operand_so x (entries_of v) f.0) there in
     elim r [
       | inl m ↦ inl (record { left = l.left; ends_so = l.ends_so; fit = l.fit; asked = m.0; found = m.1; exact = m.2; kept = λ i. m.3 (subst (λ (l : List Aim). IsKept l (entries_of v)) (sym same) i) })

@@ -42,3 +42,4 @@ mod TurnedPaired
 mod Turning
 pub mod Ways
 pub mod Steps
+pub mod ShallowFronts

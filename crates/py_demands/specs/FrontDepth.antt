@@ -1,7 +1,6 @@
 -- The first place where a front of a module is nested too deep.
-use Rattle.std.specs.Prelude.{◌≡◌, true, false, List, [], ◌∷◌, Option, Some, None}
+use Rattle.std.specs.Prelude.{◌≡◌, true, false, List, [], ◌∷◌, Some, None}
 use Rattle.py_tokens.specs.Token.{Place}
-use Rattle.py_tokens.specs.Places.{is_before}
 use Rattle.py_syntax.specs.Token.{Token}
 use Rattle.py_syntax.specs.Build.{Parts}
 use Rattle.py_syntax.specs.Table.{Symbol}

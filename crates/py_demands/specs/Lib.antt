@@ -20,3 +20,4 @@ pub mod TurnedPaired
 pub mod Ready
 pub mod Readings
 pub mod BothFirst
+pub mod Stops

@@ -19,6 +19,7 @@ ghost use Rattle.py_demands.specs.Paired.{PairedLaw, SteadyLaw, AgreementLaw};
 ghost use Rattle.py_demands.specs.Readings.{ReadingLaw, ReachedReadLaw};
 ghost use Rattle.py_demands.specs.Ready.{ReadyLaw};
 ghost use Rattle.py_demands.specs.Steps.{StepsLaw};
+ghost use Rattle.py_demands.specs.Stops.{ShallowFrontLaw};
 ghost use Rattle.py_demands.specs.TurnedPaired.{TurnedPairedLaw, BothPairsLaw};
 ghost use Rattle.py_demands.specs.Turned.{TurnedLaw};
 ghost use Rattle.py_demands.specs.Turning.{TurningLaw, OtherRowLaw};
@@ -153,4 +154,9 @@ pub fn the_first_node_too_deep_in_both_readings_is_found_by_tokens()
 /// Tokens in the order of the text have places of their own, but for layout, and none stands before an earlier one.
 pub fn tokens_in_order_are_apart()
     ensures law { OrderedFrontLaw }
+{}
+
+/// Where computation over a front finds no node too deep in one of both readings, the front is nested too deep nowhere.
+pub fn a_front_is_shallow_by_computation()
+    ensures law { ShallowFrontLaw }
 {}

@@ -11,6 +11,7 @@ use Rattle.py_nesting.specs.Depths.{here}
 use Rattle.py_nesting.specs.Shapes as shapes
 use Rattle.py_nesting.specs.TooDeep.{same_place}
 use Rattle.py_nesting.specs.Walk as walking
+use Rattle.py_nesting.proofs.FrontsOrdered.{same_place_so}
 use Rattle.py_nesting.specs.Walk.{Met, raise, met, met_depth, walk, back, brought}
 use Rattle.py_demands.specs.BothFirst.{is_deep_in_both, first_in_both}
 use Rattle.py_demands.specs.FrontDepth.{entry_met, tokens_met}
@@ -24,15 +25,6 @@ use Rattle.shed_base.specs.declared.place.Place.{Place}
 use Rattle.py_front_depth.specs.Noted.{depth_at, AreNoted}
 use Rattle.py_front_depth.proofs.Entries.{entries_split, entries_of-nothing, demands_split}
 use Rattle.py_front_depth.proofs.Stacks.{demands_of-nothing, events_of-push, events_of-nothing}
-
-pub same_place_so : (p q : token.Place) → same_place p q ≡ true → p ≡ q
-same_place_so p q h =
-    ap (λ (n : ℕ). record { «module» = n; line = p.line; column = p.column }) (eqb-true p.«module» q.«module» (and_left (p.«module» == q.«module») ((p.line == q.line) && (p.column == q.column)) h))
-    ∙ ap (λ (n : ℕ). record { «module» = q.«module»; line = n; column = p.column }) (eqb-true p.line q.line (and_left (p.line == q.line) (p.column == q.column) rest))
-    ∙ ap (λ (n : ℕ). record { «module» = q.«module»; line = q.line; column = n }) (eqb-true p.column q.column (and_right (p.line == q.line) (p.column == q.column) rest))
-  where
-    rest : ((p.line == q.line) && (p.column == q.column)) ≡ true
-    rest = and_right (p.«module» == q.«module») ((p.line == q.line) && (p.column == q.column)) h
 
 -- keys are told apart by their places
 abbrev pub IsByPlace : (Place → Place → Bool) → Type 0

@@ -1,5 +1,5 @@
 -- What some runs of the command come to, and what they cannot come to.
-use Rattle.std.proofs.Common.{◌≡◌, ℕ, zero, suc, ◌<◌, ◌≤◌, List, [], ◌∷◌, length, take, drop, Option, Some, None, inl, inr, refl, sym, ap, ◌∙◌, ◌++◌, replicate, subst, codes, lit≤, lit<, true, not-le_of_lt}
+use Rattle.std.proofs.Common.{◌≡◌, ℕ, Bool, true, zero, suc, ◌<◌, ◌≤◌, List, [], ◌∷◌, length, take, drop, Option, Some, None, inl, inr, refl, sym, ap, ◌∙◌, ◌++◌, replicate, subst, codes, lit≤, lit<, true, not-le_of_lt}
 use Rattle.std.specs.Prelude.{option_map}
 use Rattle.std.specs.Fmt.{digits}
 use Rattle.std.specs.FinMap as map
@@ -21,6 +21,12 @@ use Rattle.py_meaning.proofs.SourceVectors.{at, is_ascii, ascii_tokens, tokens, 
 use Rattle.cpp_meaning.specs.Text.{File}
 use Rattle.cpp_meaning.proofs.TreeVectors.{sum}
 use Rattle.shed_meaning.specs.Headline.{written}
+use Rattle.py_tokens.specs.Tokens.{tokens_of}
+use Rattle.py_nesting.specs.TooDeep.{IsShallowTo}
+use Rattle.py_nesting.proofs.FrontsOrdered.{ordered_front}
+use Rattle.py_demands.specs.Stops.{behind, is_shallow_at}
+use Rattle.py_demands.proofs.ShallowFronts.{shallow_front_law}
+use Rattle.shed_meaning.proofs.GrammarOrdered.{grammar_tokens_are_ordered}
 use Rattle.shed_meaning.specs.Fault.{Fault, BadToken, Unexpected, Outside, TooDeep, Unbuilt, HasFault, place_at, said_at, fault_text, fault_status}
 use Rattle.shed_meaning.specs.Outcome.{World, Translated, Unread, Missing, TooLarge, Faulty, ReadFailed, WriteFailed, OutOfMemory, GivesModule, Spells, Yields, with_files, message_of, Says, Tells, Holds, Cause, Ends}
 use Rattle.shed_meaning.proofs.LayoutVectors.{sum_source}
@@ -137,12 +143,20 @@ too_long : Ends words (world (folder too_long_text) []) (world (folder too_long_
 unfolding too_long_text digits lib.Utf8.encode
 too_long = refused too_long_text (BadToken TooLong (at 1 5)) refl (lit≤ tt) (ascii_tokens too_long_text refl ∙ refl)
 
+-- the first so many tokens are nested too deep nowhere
+abbrev is_shallow : ℕ → List ℕ → Bool
+is_shallow k text = is_shallow_at (behind (take k (grammar_tokens (tokens text)))) (take k (grammar_tokens (tokens text)))
+
+shallow_to : (k : ℕ) (text : List ℕ) (p : Place) → tokens_of 0 W32 text ≡ Tokens (tokens text) → is_shallow k text ≡ true → IsShallowTo p (take k (grammar_tokens (tokens text)))
+shallow_to k text p lexed h q t =
+    absurd (shallow_front_law (take k (grammar_tokens (tokens text))) (ordered_front k (grammar_tokens (tokens text)) (grammar_tokens_are_ordered.0 0 W32 text (tokens text) lexed)) h q t)
+
 -- where the longest front of the tokens has so many of them, the next one is said
 stuck : (k : ℕ) (text : List ℕ) (p : Place) (said : List ℕ) → is_ascii text ≡ true → tokens_of_characters W32 (beginning 0) (unmarked text) ≡ Tokens (tokens text)
     → IsLongestFront (take k (grammar_tokens (tokens text))) (drop k (grammar_tokens (tokens text)))
     → p ≡ place_at (tokens text) (drop k (tokens text)) → said ≡ said_at (drop k (tokens text))
-    → search constructs 400 (grammar_tokens (tokens text)) k None ≡ Some None → HasFault text (Unexpected p said)
-stuck k text p said a lexed longest place words none = (
+    → search constructs 400 (grammar_tokens (tokens text)) k None ≡ Some None → is_shallow k text ≡ true → HasFault text (Unexpected p said)
+stuck k text p said a lexed longest place words none shallow = (
   tokens text,
   ascii_tokens text a ∙ lexed,
   record {
@@ -152,6 +166,7 @@ stuck k text p said a lexed longest place words none = (
     words = words;
     none = search_law 400 (grammar_tokens (tokens text)) k None none;
   },
+  shallow_to k text p (ascii_tokens text a ∙ lexed) shallow,
 )
 
 -- no value stands behind `=`
@@ -160,7 +175,7 @@ no_value_text = codes "x = \n"
 
 no_value : Ends words (world (folder no_value_text) []) (world (folder no_value_text) (codes "main.py:1:5: P1 Unexpected NEWLINE\n")) 3
 unfolding no_value_text digits lib.Utf8.encode
-no_value = refused no_value_text (Unexpected (at 1 5) (codes "NEWLINE")) refl (lit≤ tt) (stuck 2 no_value_text _ _ refl refl (longest_front 400 2 no_value_text refl) refl refl refl)
+no_value = refused no_value_text (Unexpected (at 1 5) (codes "NEWLINE")) refl (lit≤ tt) (stuck 2 no_value_text _ _ refl refl (longest_front 400 2 no_value_text refl) refl refl refl refl)
 
 -- a branch with nothing in it: the end has the place of the last token, which is a NEWLINE
 no_block_text : List ℕ
@@ -168,7 +183,7 @@ no_block_text = codes "if 1 < 2:\n"
 
 no_block : Ends words (world (folder no_block_text) []) (world (folder no_block_text) (codes "main.py:1:10: P1 Unexpected END\n")) 3
 unfolding no_block_text digits lib.Utf8.encode
-no_block = refused no_block_text (Unexpected (at 1 10) (codes "END")) refl (lit≤ tt) (stuck 6 no_block_text _ _ refl refl (longest_front 400 6 no_block_text refl) refl refl refl)
+no_block = refused no_block_text (Unexpected (at 1 10) (codes "END")) refl (lit≤ tt) (stuck 6 no_block_text _ _ refl refl (longest_front 400 6 no_block_text refl) refl refl refl refl)
 
 -- a text behind a name is said as `repr` has it
 text_behind_text : List ℕ
@@ -176,16 +191,17 @@ text_behind_text = codes "x = 1\nx 'it\\'s'\n"
 
 text_behind : Ends words (world (folder text_behind_text) []) (world (folder text_behind_text) (codes "main.py:2:3: P1 Unexpected \"it's\"\n")) 3
 unfolding text_behind_text digits lib.Utf8.encode
-text_behind = refused text_behind_text (Unexpected (at 2 3) (codes "\"it's\"")) refl (lit≤ tt) (stuck 5 text_behind_text _ _ refl refl (longest_front 400 5 text_behind_text refl) refl refl refl)
+text_behind = refused text_behind_text (Unexpected (at 2 3) (codes "\"it's\"")) refl (lit≤ tt) (stuck 5 text_behind_text _ _ refl refl (longest_front 400 5 text_behind_text refl) refl refl refl refl)
 
 -- where a construct is found behind so many tokens, it is said in place of the next one
 found_at : (k n : ℕ) (text : List ℕ) (p : Place) (c : Construct) → is_ascii text ≡ true → tokens_of_characters W32 (beginning 0) (unmarked text) ≡ Tokens (tokens text)
     → IsLongestFront (take k (grammar_tokens (tokens text))) (drop k (grammar_tokens (tokens text)))
-    → search constructs 400 (grammar_tokens (tokens text)) k None ≡ Some (Some (best c (record { number = n; place = p }))) → HasFault text (Outside p c)
-found_at k n text p c a lexed longest e = (
+    → search constructs 400 (grammar_tokens (tokens text)) k None ≡ Some (Some (best c (record { number = n; place = p }))) → is_shallow k text ≡ true → HasFault text (Outside p c)
+found_at k n text p c a lexed longest e shallow = (
   tokens text,
   ascii_tokens text a ∙ lexed,
   record { count = k; longest = longest; found = search_law 400 (grammar_tokens (tokens text)) k (Some (best c (record { number = n; place = p }))) e },
+  shallow_to k text p (ascii_tokens text a ∙ lexed) shallow,
 )
 
 -- a float stands where a number may
@@ -194,7 +210,7 @@ half_text = codes "x = 1.5\n"
 
 half : Ends words (world (folder half_text) []) (world (folder half_text) (codes "main.py:1:5: P2 Outside float\n")) 3
 unfolding half_text digits lib.Utf8.encode
-half = refused half_text (Outside (at 1 5) Float) refl (lit≤ tt) (found_at 2 2 half_text (at 1 5) Float refl refl (longest_front 400 2 half_text refl) refl)
+half = refused half_text (Outside (at 1 5) Float) refl (lit≤ tt) (found_at 2 2 half_text (at 1 5) Float refl refl (longest_front 400 2 half_text refl) refl refl)
 
 -- a number below a hundred signs and their statement
 too_deep_text : List ℕ
@@ -210,13 +226,13 @@ too_deep_steps = JoinGroup ∷ Over Plain (at 1 1) 2 ∷ signs 100 5 (Over Plain
 
 too_deep : Ends words (world (folder too_deep_text) []) (world (folder too_deep_text) (codes "main.py:1:105: P3 TooDeep\n")) 5
 unfolding too_deep_text digits lib.Utf8.encode
-too_deep = refused too_deep_text (TooDeep (at 1 105)) refl (lit≤ tt) (record {
+too_deep = refused too_deep_text (TooDeep (at 1 105)) refl (lit≤ tt) (inl (record {
   tokens = tokens too_deep_text;
   lexed = ascii_tokens too_deep_text refl ∙ refl;
   tree = tree 2000 too_deep_text;
   spelt = spelt_text 2000 too_deep_text refl;
   first = first_law too_deep_steps (tree 2000 too_deep_text) refl;
-})
+}))
 
 -- print(y), where y is unset
 unset_text : List ℕ
