@@ -11,7 +11,6 @@ use Rattle.py_depth.specs.PlainDemands.{plain_demand, demands_of}
 use Rattle.py_depth.specs.declared.event.Event.{Event}
 use Rattle.py_depth.proofs.Stacks.{events_of-push, events_of-nothing}
 use Rattle.py_depth.specs.declared.walk.Demand.{Demand}
-use Rattle.py_depth.specs.declared.walk.Demand.TheVariants as demand
 
 pub demands_of-push : (xs : List Demand) (x : Demand) → demands_of (xs ++ x ∷ []) ≡ plain_demand x ∷ demands_of xs
 unfolding demands_of

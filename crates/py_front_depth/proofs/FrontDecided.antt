@@ -6,22 +6,19 @@ use Rattle.grammars.specs.Grammar.{Tok, Non, Do}
 use Rattle.grammars.proofs.Bools.{and_left, and_right}
 use Rattle.py_tokens.specs.Token.{Place}
 use Rattle.py_syntax.specs.Token.{Token}
-use Rattle.py_syntax.specs.Build.{Parts}
 use Rattle.py_syntax.specs.Table as meaning
 use Rattle.py_nesting.specs.TooDeep.{IsFirstInFront}
 use Rattle.py_nesting.specs.First.{first_of}
 use Rattle.py_nesting.specs.Ordered.{AreOrdered}
-use Rattle.py_nesting.specs.Outlines.{built}
 use Rattle.py_nesting.specs.Shapes as shapes
 use Rattle.py_nesting.specs.Shapes.{outlines_of}
 use Rattle.py_nesting.specs.Walk as walking
-use Rattle.py_demands.specs.Behind.{drops_first, Behind}
+use Rattle.py_demands.specs.Behind.{drops_first}
 use Rattle.py_demands.specs.BothFirst.{first_in_both}
 use Rattle.py_demands.specs.Closing.{exactly}
 use Rattle.py_demands.specs.Decided.{IsNoDeeper, InModules}
 use Rattle.py_demands.specs.FrontDepth.{front_met}
 use Rattle.py_demands.specs.Readings.{acts_first, targets_reading}
-use Rattle.py_demands.specs.Turning.{IsReached}
 use Rattle.py_demands.proofs.BothFound.{both_found_law}
 use Rattle.py_demands.proofs.FrontFirst.{first_in_front}
 use Rattle.py_demands.proofs.OrderedFronts.{ordered_apart, ordered_in_order}
@@ -33,7 +30,6 @@ use Rattle.py_table.specs.declared.symbol.Symbol.{Symbol}
 use Rattle.py_depth.specs.PlainEntries.{entries_of, events_of}
 use Rattle.py_depth.specs.declared.nest.Nest.{Nest}
 use Rattle.py_depth.specs.declared.walk.Demand.{Demand}
-use Rattle.py_depth.specs.declared.walk.Demand.TheVariants as demand
 use Rattle.py_depth.specs.PlainDemands.{demands_of}
 use Rattle.shed_base.specs.declared.place.Place.{Place as PlaceRead}
 use Rattle.py_front_depth.specs.Noted.{AreNoted}

@@ -1,9 +1,8 @@
 -- Depths are noted place by place.
-use Rattle.std.proofs.Common.{◌≡◌, ℕ, zero, suc, ◌+◌, ◌-◌, ◌<◌, ◌≤◌, max, Bool, true, false, not, ◌&&◌, ◌==◌, if◌then◌else◌, List, [], ◌∷◌, ◌++◌, map, length, take, drop, get_or, Option, Some, None, refl, sym, ap, ◌∙◌, subst, arith, drop-cons, drop_of_length-le, eqb-true}
+use Rattle.std.proofs.Common.{◌≡◌, ℕ, zero, suc, ◌+◌, ◌-◌, ◌<◌, ◌≤◌, max, Bool, true, false, if◌then◌else◌, List, [], ◌∷◌, length, take, drop, get_or, Option, Some, None, refl, sym, ap, ◌∙◌, subst, arith, drop-cons, drop_of_length-le}
 use Rattle.std.proofs.Math.Seq.{take-suc, take-length}
 use Rattle.std.specs.Map.{lookup}
 use Rattle.indexmap.specs.IndexMap.{insert_entry}
-use Rattle.grammars.proofs.Bools.{and_left, and_right}
 use Rattle.py_lexer.specs.PlainTokens.{plain_place}
 use Rattle.py_lexer.specs.declared.token.Token.{Token as TokenRead}
 use Rattle.py_tokens.specs.Token as token
@@ -24,7 +23,7 @@ use Rattle.py_depth.specs.declared.walk.Demand.{Demand}
 use Rattle.shed_base.specs.declared.place.Place.{Place}
 use Rattle.py_front_depth.specs.Noted.{depth_at, AreNoted}
 use Rattle.py_front_depth.proofs.Entries.{entries_split, entries_of-nothing, demands_split}
-use Rattle.py_front_depth.proofs.Stacks.{demands_of-nothing, events_of-push, events_of-nothing}
+use Rattle.py_front_depth.proofs.Stacks.{events_of-push, events_of-nothing}
 
 -- keys are told apart by their places
 abbrev pub IsByPlace : (Place → Place → Bool) → Type 0

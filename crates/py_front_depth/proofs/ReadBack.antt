@@ -1,13 +1,10 @@
 -- The reading with targets, symbol by symbol and part by part.
 use Rattle.std.proofs.Common.{◌≡◌, ℕ, zero, suc, ◌+◌, ◌<◌, ◌≤◌, Bool, true, false, if◌then◌else◌, List, [], ◌∷◌, ◌++◌, map, length, take, get_or, Option, Some, None, refl, sym, ap, ◌∙◌, subst, arith}
-use Rattle.std.specs.Option.{option_map}
 use Rattle.std.proofs.Math.Seq.{take-suc, take-length}
-use Rattle.std.proofs.lemmas.List.{reverse-append}
 use Rattle.std.proofs.lemmas.Option.{same_Some}
 use Rattle.grammars.specs.Grammar.{Do}
 use Rattle.py_syntax.specs.Build.{AddItem}
 use Rattle.py_syntax.specs.Table as meaning
-use Rattle.py_nesting.specs.Shapes as shapes
 use Rattle.py_nesting.specs.Walk as walking
 use Rattle.py_demands.specs.Aims as aiming
 use Rattle.py_demands.specs.Least as at_least

@@ -1,12 +1,12 @@
 -- What stands behind the longest front.
-use Rattle.std.proofs.Common.{◌≡◌, ℕ, suc, ◌+◌, Bool, true, false, if◌then◌else◌, inl, inr, List, [], ◌∷◌, ◌++◌, Option, None, Some, map, length, take, drop, get_or, refl, sym, ap, ◌∙◌, subst, subst₂, arith}
+use Rattle.std.proofs.Common.{◌≡◌, ℕ, suc, ◌+◌, Bool, true, false, if◌then◌else◌, inr, List, [], ◌∷◌, ◌++◌, Option, None, Some, map, length, take, drop, get_or, refl, sym, ap, ◌∙◌, subst, subst₂, arith}
 use Rattle.std.proofs.lemmas.List.{map-append, drop-map, length-append, length-map}
 use Rattle.std.proofs.Math.Seq.{take-append_seam, drop-append_seam}
 use Rattle.py_tokens.specs.Token as texts
 use Rattle.py_syntax.specs.Token as meaning
 use Rattle.py_syntax.specs.Token.{Token}
 use Rattle.py_syntax.specs.Laws.{IsLongestFront}
-use Rattle.py_constructs.specs.Standing.{Finding, finding, IsFinding}
+use Rattle.py_constructs.specs.Standing.{finding, IsFinding}
 use Rattle.py_outside.specs.PlainConstructs.{plain_construct}
 use Rattle.py_outside.specs.declared.construct.Construct.{Construct}
 use Rattle.py_recogniser.specs.declared.refusal.ParseRefusal.TheVariants as refusal

@@ -374,13 +374,22 @@ fn refuses_texts(rt: HostRuntime) -> Result<(), Fail> {
 }
 
 // What comes before, how many times a piece, what comes behind, the number that it ends with, and what is said.
-const LIMITS: [(&str, usize, &str, &str, u8, &str); 11] = [
+const LIMITS: [(&str, usize, &str, &str, u8, &str); 13] = [
     ("x = ", 99, "-", "1\n", 0, ""),
     ("x = ", 100, "-", "1\n", 5, "main.py:1:105: P3 TooDeep\n"),
     ("x = 1", 99, " + 1", "\n", 0, ""),
     ("x = 1", 100, " + 1", "\n", 5, "main.py:1:5: P3 TooDeep\n"),
     ("print(", 98, "-", "1)\n", 0, ""),
     ("print(", 99, "-", "1)\n", 5, "main.py:1:106: P3 TooDeep\n"),
+    (
+        "x = 1",
+        99,
+        " + 1",
+        " 2\n",
+        3,
+        "main.py:1:403: P1 Unexpected 2\n",
+    ),
+    ("x = 1", 100, " + 1", " 2\n", 5, "main.py:1:5: P3 TooDeep\n"),
     ("", 1000, "a", " = 1\n", 0, ""),
     (
         "x = 1; ",

@@ -3,7 +3,6 @@ use Rattle.std.proofs.Common.{◌≡◌, false, List, [], ◌∷◌, map, refl}
 use Rattle.py_tokens.specs.Token as texts
 use Rattle.py_tokens.specs.Ordered as texts_order
 use Rattle.py_tokens.proofs.TokensOrdered.{tokens_are_ordered}
-use Rattle.py_syntax.specs.Token.{Token}
 use Rattle.py_syntax.specs.Kinds.{number_of}
 use Rattle.py_nesting.specs.Ordered.{is_layout_kind, IsBefore, AreOrdered}
 use Rattle.py_nesting.proofs.FrontsOrdered.{ordered_front}

@@ -193,6 +193,96 @@ const BRANCHES_AND_CHAINS: [(&str, &str, &str, &str, &str, usize, &str); 6] = [
     ("x = 1", "", "", ", 1", "\n", 1000, "module"),
 ];
 
+// Fronts of modules that break off: what is nested too deep in each module that goes on as they do is told, if it comes no later than
+// the token at which they do.
+const FRONTS: [(&str, &str, &str, &str, &str, usize, &str); 13] = [
+    ("x = ", "(", "1 2", ")", "\n", 99, "1:106 2"),
+    ("x = ", "(", "1 2", ")", "\n", 100, "1:105 too deep"),
+    ("x = ", "(", "1 2", ")", "\n", 1000, "1:105 too deep"),
+    (
+        "x = ",
+        "(",
+        "1 / 2",
+        ")",
+        "\n",
+        99,
+        "1:106 outside division",
+    ),
+    ("x = ", "(", "1 / 2", ")", "\n", 100, "1:105 too deep"),
+    ("x = 1", "", "", " + 1", " 2\n", 99, "1:403 2"),
+    ("x = 1", "", "", " + 1", " 2\n", 100, "1:5 too deep"),
+    ("x = a", "", "", "[0]", " b\n", 99, "1:304 b"),
+    ("x = a", "", "", "[0]", " b\n", 100, "1:5 too deep"),
+    ("x = ", "a if b else ", "c", "", " d\n", 99, "1:1195 d"),
+    (
+        "x = ",
+        "a if b else ",
+        "c",
+        "",
+        " d\n",
+        100,
+        "1:1193 too deep",
+    ),
+    (
+        "if x: pass\n",
+        "",
+        "",
+        "elif x: pass\n",
+        "x 2\n",
+        99,
+        "101:3 2",
+    ),
+    (
+        "if x: pass\n",
+        "",
+        "",
+        "elif x: pass\n",
+        "x 2\n",
+        100,
+        "101:6 too deep",
+    ),
+];
+
+// Operators behind brackets stand over what comes before, where the text goes on to them, and else they don't.
+const OPERATORS_OVER_BRACKETS: [(&str, &str, &str, &str, &str, usize, &str); 5] = [
+    ("(x", "", "", " + ((1))", " + ((1 2)))\n", 97, "1:786 2"),
+    (
+        "(x",
+        "",
+        "",
+        " + ((1))",
+        " + ((1 2)))\n",
+        98,
+        "1:2 too deep",
+    ),
+    ("(x + ", "(", "1", ") + 1", ") 2\n", 120, "1:55 too deep"),
+    ("(x + ", "(", "1 2", ") + 1", ")\n", 120, "1:104 too deep"),
+    ("(x + ", "(", "1 2", ") + 1", ")\n", 97, "1:105 2"),
+];
+
+// Tuples that may be assigned to, whose items have one node less above them then.
+const FRONTS_OF_TARGETS: [(&str, &str, &str, &str, &str, usize, &str); 15] = [
+    ("", "(", "a, b c", ")", "\n", 99, "1:105 c"),
+    ("", "(", "a, b c", ")", "\n", 100, "1:101 too deep"),
+    ("", "[", "a, b c", "]", "\n", 99, "1:105 c"),
+    ("", "[", "a, b c", "]", "\n", 100, "1:101 too deep"),
+    ("x = ", "(", "a, b c", ")", "\n", 99, "1:109 c"),
+    ("x = ", "(", "a, b c", ")", "\n", 100, "1:105 too deep"),
+    // What comes behind `+=` is never assigned to.
+    ("x += ", "(", "a, b c", ")", "\n", 98, "1:109 c"),
+    ("x += ", "(", "a, b c", ")", "\n", 99, "1:105 too deep"),
+    // A number is no target, whatever comes behind it.
+    ("", "(", "1, b c", ")", "\n", 98, "1:104 c"),
+    ("", "(", "1, b c", ")", "\n", 99, "1:100 too deep"),
+    // An attribute of a call is one, and so may the call be that is read.
+    ("", "(", "a, b.c d", ")", "\n", 98, "1:106 d"),
+    ("", "(", "a, b.c d", ")", "\n", 99, "1:103 too deep"),
+    ("", "(", "a, b() c", ")", "\n", 98, "1:102 too deep"),
+    ("", "(", "a, b() c", ")", "\n", 99, "1:103 too deep"),
+    // But a sign makes none.
+    ("", "(", "a, -b c", ")", "\n", 99, "1:100 too deep"),
+];
+
 // A text with something before a middle and something behind it, each so many times.
 fn nested(
     alloc: Global,
@@ -248,6 +338,30 @@ fn deep_operators_are_refused(rt: HostRuntime) -> Result<(), Fail> {
 #[test]
 fn deep_primaries_are_refused(rt: HostRuntime) -> Result<(), Fail> {
     assert_eq!(rt; nested_differences(rt.alloc(), &PRIMARIES)?.as_str(), "");
+    Ok(())
+}
+
+#[test]
+fn deep_fronts_are_refused(rt: HostRuntime) -> Result<(), Fail> {
+    assert_eq!(rt; nested_differences(rt.alloc(), &FRONTS)?.as_str(), "");
+    Ok(())
+}
+
+#[test]
+fn operators_over_brackets_are_told(rt: HostRuntime) -> Result<(), Fail> {
+    assert_eq!(rt;
+        nested_differences(rt.alloc(), &OPERATORS_OVER_BRACKETS)?.as_str(),
+        ""
+    );
+    Ok(())
+}
+
+#[test]
+fn deep_fronts_of_targets_are_refused(rt: HostRuntime) -> Result<(), Fail> {
+    assert_eq!(rt;
+        nested_differences(rt.alloc(), &FRONTS_OF_TARGETS)?.as_str(),
+        ""
+    );
     Ok(())
 }
 

@@ -1,6 +1,4 @@
-use Rattle.std.proofs.Common.{None, ◌≡◌, subst, sym, ap}
-use Rattle.py_nesting.specs.Walk.{walk}
-use Rattle.py_front_depth.proofs.NotedDepths.{AreLeft, walk_split, met_so, walk_done, none_met}
+use Rattle.py_front_depth.proofs.NotedDepths.{walk_split, met_so, walk_done, none_met}
 use Rattle.py_front_depth.proofs.depths.note_steps.Goals as goal
 
 pub loop-i-preserved-in-Continue-branch-3 : goal.loop-i-preserved-in-Continue-branch-3

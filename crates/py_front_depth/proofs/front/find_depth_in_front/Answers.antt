@@ -8,7 +8,6 @@ use Rattle.py_table.specs.PlainTokens.{plain_tokens}
 use Rattle.py_table.specs.Steps.{stack_of}
 use Rattle.py_depth.specs.PlainDemands.{demands_of}
 use Rattle.py_depth.specs.PlainEntries.{entries_of, events_of}
-use Rattle.py_front_depth.specs.Noted.{AreNoted}
 use Rattle.py_front_depth.proofs.FrontDecided.{without_targets, with_same, with_both, noted_in}
 use Rattle.py_front_depth.proofs.front.find_depth_in_front.Goals as goal
 

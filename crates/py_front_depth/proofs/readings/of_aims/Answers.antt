@@ -1,4 +1,4 @@
-use Rattle.std.proofs.Common.{ap, sym, ◌∙◌, Some}
+use Rattle.std.proofs.Common.{ap, sym, ◌∙◌}
 use Rattle.std.specs.Option.{option_map}
 use Rattle.py_depth.specs.PlainDemands.{plain_demand, demands_of}
 use Rattle.py_front_depth.proofs.ReadBack.{asked_begun, asked_more, none_asked_so}

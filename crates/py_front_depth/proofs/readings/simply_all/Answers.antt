@@ -1,6 +1,6 @@
 use Rattle.std.proofs.Common.{ap, ◌∙◌}
 use Rattle.py_front_depth.specs.PlainAsks.{aims_of}
-use Rattle.py_front_depth.proofs.ReadBack.{simply_begun, simply_more, simply_all_so}
+use Rattle.py_front_depth.proofs.ReadBack.{simply_more}
 use Rattle.py_front_depth.proofs.Stacks.{aims_of-push}
 use Rattle.py_front_depth.proofs.readings.simply_all.Goals as goal
 

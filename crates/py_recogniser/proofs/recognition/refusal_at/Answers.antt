@@ -30,8 +30,10 @@ returns-in-Some-no_later-2 c r =
     let front = c.split_at.result.0.now in
     let back = c.split_at.result.1.now in
     tells_deep names ts front back _ c.in_ok-first.first c.no_later-2.result c.in_ok-place.place c.in-Some-no_later-2.deep c.split_at.ensures.by_index.0 (sym c.split_at.ensures.front_len) c.in_ok-first.ensures c.no_later-2.ensures c.in-Some-no_later-2.is
-    (inl (c.in_ok-place.found,
-    unexpected_at names ts front back c.args.rest.now _ c.in_ok-place.place c.in_ok-place.found c.split_at.ensures.by_index.0 many (sym c.split_at.ensures.front_len) (rw c.in_default-2.is at c.in_ok-construct.ensures) (c.in_ok-place.ensures c.args.names.now) r))
+    (inl (
+      c.in_ok-place.found,
+      unexpected_at names ts front back c.args.rest.now _ c.in_ok-place.place c.in_ok-place.found c.split_at.ensures.by_index.0 many (sym c.split_at.ensures.front_len) (rw c.in_default-2.is at c.in_ok-construct.ensures) (c.in_ok-place.ensures c.args.names.now) r,
+    ))
 
 pub returns-in-None-no_later : goal.returns-in-None-no_later
 returns-in-None-no_later c r =
