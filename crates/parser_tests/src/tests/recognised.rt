@@ -245,16 +245,8 @@ const FRONTS: [(&str, &str, &str, &str, &str, usize, &str); 13] = [
 
 // Operators behind brackets stand over what comes before, where the text goes on to them, and else they don't.
 const OPERATORS_OVER_BRACKETS: [(&str, &str, &str, &str, &str, usize, &str); 5] = [
-    ("(x", "", "", " + ((1))", " + ((1 2)))\n", 97, "1:786 2"),
-    (
-        "(x",
-        "",
-        "",
-        " + ((1))",
-        " + ((1 2)))\n",
-        98,
-        "1:2 too deep",
-    ),
+    ("(x", "", "", " + 1", " + ((1 2)))\n", 97, "1:398 2"),
+    ("(x", "", "", " + 1", " + ((1 2)))\n", 98, "1:2 too deep"),
     ("(x + ", "(", "1", ") + 1", ") 2\n", 120, "1:55 too deep"),
     ("(x + ", "(", "1 2", ") + 1", ")\n", 120, "1:104 too deep"),
     ("(x + ", "(", "1 2", ") + 1", ")\n", 97, "1:105 2"),
