@@ -99,7 +99,7 @@ module _ (text : List ℕ) (names : List (List ℕ)) (ts : List TokenRead) (lexe
   seen_longest : (count : ℕ) → IsLongestFront (take count (plain_tokens names ts)) (drop count (plain_tokens names ts)) → IsLongestFront (take count (grammar_tokens (text_tokens names ts))) (drop count (grammar_tokens (text_tokens names ts)))
   seen_longest count h = subst (λ (us : List Token). IsLongestFront (take count us) (drop count us)) (sym seen) h
 
-  unexpected_so : (count : ℕ) (p : Place) (f : Found) → IsUnexpectedAt names ts count p f → IsUnexpected (text_tokens names ts) (plain_place p) (found_text names f)
+  abbrev unexpected_so : (count : ℕ) (p : Place) (f : Found) → IsUnexpectedAt names ts count p f → IsUnexpected (text_tokens names ts) (plain_place p) (found_text names f)
   unexpected_so count p f h =
       record {
         count = count;
@@ -109,7 +109,7 @@ module _ (text : List ℕ) (names : List (List ℕ)) (ts : List TokenRead) (lexe
         none = subst (λ (us : List Token). IsFinding us count None) (sym seen) h.2;
       }
 
-  outside_so : (count : ℕ) (p : Place) (c : Construct) → IsOutsideAt names ts count p c → IsOutside (text_tokens names ts) (plain_place p) (plain_construct c)
+  abbrev outside_so : (count : ℕ) (p : Place) (c : Construct) → IsOutsideAt names ts count p c → IsOutside (text_tokens names ts) (plain_place p) (plain_construct c)
   outside_so count p c h =
       record { count = count; longest = seen_longest count h.0; found = subst (λ (us : List Token). IsFinding us count (Some (finding (plain_construct c) (plain_place p)))) (sym seen) h.1 }
 
