@@ -57,12 +57,3 @@ other_globals owner x y e =
 
 pub temporary_apart : (n owner : ℕ) (x : List ℕ) → bytes_eq (temporary_name n) (global_name owner x) ≡ false
 temporary_apart n owner x = refl
-
-pub global_not_temporary : (n owner : ℕ) (x : List ℕ) → bytes_eq (global_name owner x) (temporary_name n) ≡ false
-global_not_temporary n owner x = refl
-
-pub global_not_body : (owner : ℕ) (x name : List ℕ) → bytes_eq (global_name owner x) (body_name name) ≡ false
-global_not_body owner x name = refl
-
-pub body_apart : (owner : ℕ) (x name : List ℕ) → bytes_eq (body_name name) (global_name owner x) ≡ false
-body_apart owner x name = refl

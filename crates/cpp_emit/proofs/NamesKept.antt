@@ -46,7 +46,3 @@ names_step all old new items i s within is e h =
     ∙ sym (with_names-append (targets_of (plain_stmt s)) rest old)
     ∙ ap (λ (ss : List Stmt). with_names old (targets (plain_body ss))) (sym (drop_at items i s within is))
     ∙ h
-
-pub names_end : (all old : List Name) (items : List Stmt) (i : ℕ) → length items ≤ i → with_names old (targets (plain_body (drop i items))) ≡ all → old ≡ all
-names_end all old items i past h =
-    ap (λ (ss : List Stmt). with_names old (targets (plain_body ss))) (sym (drop_of_length-le items past)) ∙ h

@@ -40,21 +40,6 @@ one_found es fs all e t ts us popped pushed found before =
     ∙ ap (λ (l : List Expr). followed (target_list_of (plain_exprs l)) (map plain_target (reverse ts))) (sym popped)
     ∙ before)
 
-pub target_before : (e : meaning.Expr) (r : Option (List meaning.Target)) → is_some (target_of e) ≡ true → is_some (one_more (target_of e) r) ≡ is_some r
-target_before e r h = go (target_of e) r h
-  where
-    go : (f : Option meaning.Target) (r : Option (List meaning.Target)) → is_some f ≡ true → is_some (one_more f r) ≡ is_some r
-    go None r h = absurd (cc)
-    go (Some f) None h = refl
-    go (Some f) (Some r) h = refl
-
-pub no_target_before : (e : meaning.Expr) (r : Option (List meaning.Target)) → is_some (target_of e) ≡ false → is_some (one_more (target_of e) r) ≡ false
-no_target_before e r h = go (target_of e) h
-  where
-    go : (f : Option meaning.Target) → is_some f ≡ false → is_some (one_more f r) ≡ false
-    go None h = refl
-    go (Some f) h = absurd (cc)
-
 -- the innermost bracket
 pub all_around-push : (brackets : List Around) (b : Around) (t : Option meaning.Targets)
     → all_around (brackets ++ b ∷ []) t ≡ all_around brackets (in_brackets (bracketed b) t)

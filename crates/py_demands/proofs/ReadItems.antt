@@ -266,12 +266,6 @@ single_rest (Do a ∷ item) rest i h = single_rest item rest (and_right _ (are_i
 single_rest (Non x ∷ item) rest i h =
     single_rest item rest (and_right (is_inner x) (are_inner item) i) (sym (ap (λ (b : Bool). if b then are_single (item ++ Do AddItem ∷ rest) else are_quiet (item ++ Do AddItem ∷ rest)) (and_left (is_inner x) (are_inner item) i)) ∙ h)
 
-calm_rest : (item rest : List Symbol) → are_calm (item ++ rest) ≡ true → are_calm rest ≡ true
-calm_rest [] rest h = h
-calm_rest (Tok k ∷ item) rest h = calm_rest item rest h
-calm_rest (Non x ∷ item) rest h = calm_rest item rest h
-calm_rest (Do a ∷ item) rest h = calm_rest item rest (and_right _ (are_calm (item ++ rest)) h)
-
 -- the item is a target in the end, and its tuple stands below it
 record Ended (n : ℕ) (lower es : List Entry) (ds : List Demand) : Type 0 where
   part : Entry

@@ -132,11 +132,6 @@ quiet_joined (Tok j ∷ these) symbols h k = quiet_joined these symbols h k
 quiet_joined (Non x ∷ these) symbols h k = both (not (is_tail x)) (are_quiet (these ++ symbols)) (and_left (not (is_tail x)) (are_quiet these) h) (quiet_joined these symbols (and_right (not (is_tail x)) (are_quiet these) h) k)
 quiet_joined (Do a ∷ these) symbols h k = quiet_joined these symbols h k
 
-tail_not_inner : (x : Nonterminal) → is_inner x ≡ true → not (is_tail x) ≡ true
-tail_not_inner SmallTail h = h
-tail_not_inner AssignTail h = h
-tail_not_inner x h = refl
-
 quiet_single : (symbols : List Symbol) → are_quiet symbols ≡ true → are_single symbols ≡ true
 quiet_single [] h = refl
 quiet_single (Tok k ∷ symbols) h = quiet_single symbols h

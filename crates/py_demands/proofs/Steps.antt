@@ -102,12 +102,6 @@ avoids_last at (u ∷ ts) t h =
     let r = avoids_last at ts t (and_right (not (at (place_of u))) (avoids at (ts ++ t ∷ [])) h) in
     (both (not (at (place_of u))) (avoids at ts) (and_left (not (at (place_of u))) (avoids at (ts ++ t ∷ [])) h) r.0, r.1)
 
-once_where_avoided : (at : Place → Bool) (ts : List Token) → avoids at ts ≡ true → is_once at ts ≡ true
-once_where_avoided at [] h = refl
-once_where_avoided at (t ∷ ts) h =
-    let none : at (place_of t) ≡ false = not_false (at (place_of t)) (and_left (not (at (place_of t))) (avoids at ts) h) in
-    ap (λ (b : Bool). if b then avoids at ts else is_once at ts) none ∙ once_where_avoided at ts (and_right (not (at (place_of t))) (avoids at ts) h)
-
 -- the last token stands there, and no other does; or it doesn't
 once_last : (at : Place → Bool) (ts : List Token) (t : Token) → is_once at (ts ++ t ∷ []) ≡ true → (avoids at ts ≡ true) ⊎ ((at (place_of t) ≡ false) × (is_once at ts ≡ true))
 once_last at [] t h = inl refl

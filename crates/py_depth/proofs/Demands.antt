@@ -22,10 +22,6 @@ demands_of-nothing = refl
 
 pub ruleset stacks = (demands_of-push, demands_of-nothing)
 
-pub first_met : (first : Option token.Place) (p : token.Place) (above : Option ℕ) (nodes : List Met) → first_of first (met p above nodes) ≡ first_of (sooner first p above) nodes
-first_met first p None nodes = refl
-first_met first p (Some d) nodes = refl
-
 -- one event further back
 pub gone_back : (events : List Event) (i : ℕ) (d : Event) (whole first next : Option token.Place) (ds es : List walking.Demand) → 0 < i → i ≤ length events
     → whole ≡ first_of first (walk (events_of (take i events)) ds) → es ≡ back (plain_event (get_or events (i - 1) d)) ds

@@ -1,4 +1,4 @@
-mod Stacks
-mod Demands
+pub mod Stacks
+pub mod Demands
 mod NestStands
 mod DepthFound

@@ -33,9 +33,3 @@ acted a v old new h s =
 
 pub targets_asked : (v : Parts) (es : List Entry) (b : Bool) → es ≡ shapes.entries_of v → b ≡ targets_last es → b ≡ are_targets_last v
 targets_asked v es b h e = e ∙ ap targets_last h ∙ sym (targets_of_entries v)
-
-pub target_asked : (v : Parts) (es : List Entry) (b : Bool) → es ≡ shapes.entries_of v → b ≡ target_last es → b ≡ is_target_last v
-target_asked v es b h e = e ∙ ap target_last h ∙ sym (target_of_entries v)
-
-pub name_asked : (v : Parts) (es : List Entry) (b : Bool) → es ≡ shapes.entries_of v → b ≡ name_last es → b ≡ is_name_last v
-name_asked v es b h e = e ∙ ap name_last h ∙ sym (name_of_entries v)

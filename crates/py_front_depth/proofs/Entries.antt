@@ -14,15 +14,8 @@ use Rattle.py_depth.specs.PlainDemands.{plain_demand, demands_of}
 use Rattle.py_depth.specs.declared.shape.Entry.{Entry}
 use Rattle.py_depth.specs.declared.walk.Demand.{Demand}
 use Rattle.py_depth.specs.declared.walk.Demand.TheVariants as demand
-use Rattle.py_front_depth.proofs.Stacks.{demands_of-push, demands_of-nothing}
-
-entries_of-push : (xs : List Entry) (x : Entry) → entries_of (xs ++ x ∷ []) ≡ plain_entry x ∷ entries_of xs
-unfolding entries_of
-entries_of-push xs x = ap (map plain_entry) (reverse-append xs (x ∷ []))
-
-pub entries_of-nothing : entries_of [] ≡ []
-unfolding entries_of
-entries_of-nothing = refl
+use Rattle.py_depth.proofs.Demands.{demands_of-push, demands_of-nothing}
+use Rattle.py_depth.proofs.Stacks.{entries_of-push, entries_of-nothing}
 
 pub entries_split : (entries : List Entry) (i : ℕ) (x : Entry) → i < length entries → entries_of (take (suc i) entries) ≡ plain_entry (get_or entries i x) ∷ entries_of (take i entries)
 entries_split entries i x p = ap entries_of (take-suc entries i x p) ∙ entries_of-push (take i entries) (get_or entries i x)
@@ -34,11 +27,6 @@ demands_split demands i x p = ap demands_of (take-suc demands i x p) ∙ demands
 abbrev pub IsLeft : List Entry → List Demand → ℕ → Option token.Place → Type 0
 IsLeft entries demands i first =
     (nodes : List Met) → first_of None (tokens_met (entries_of entries) (demands_of demands) nodes) ≡ first_of first (tokens_met (entries_of (take i entries)) (demands_of (take i demands)) nodes)
-
-pub all_left : (entries : List Entry) (demands : List Demand) → length entries ≡ length demands → IsLeft entries demands (length entries) None
-all_left entries demands e nodes =
-    ap (λ (l : List Entry). first_of None (tokens_met (entries_of l) (demands_of demands) nodes)) (sym (take-length entries))
-    ∙ ap (λ (l : List Demand). first_of None (tokens_met (entries_of (take (length entries) entries)) (demands_of l) nodes)) (sym (ap (λ (n : ℕ). take n demands) e ∙ take-length demands))
 
 pub one_less : (entries : List Entry) (demands : List Demand) (i : ℕ) (x : Entry) (d : Demand) (first next : Option token.Place) → length entries ≡ length demands → 0 < i → i ≤ length entries
     → IsLeft entries demands i first → ((nodes : List Met) → first_of first (entry_met (plain_entry (get_or entries (i - 1) x)) (plain_demand (get_or demands (i - 1) d)) nodes) ≡ first_of next nodes)
@@ -93,10 +81,3 @@ none_more entries demands asked i x b e p h o t =
     (h ∙ by_outline false (has_outline (plain_entry (get_or entries i x))) (plain_demand (get_or demands i demand.Nothing)) (of_outlines (entries_of (take i entries)) (demands_of (take i demands))) (sym o ∙ t)
     ∙ sym (asked_split entries demands i x demand.Nothing e p))
 
-pub all_asked : (entries : List Entry) (demands asked : List Demand) (i : ℕ) → length entries ≡ length demands → i ≤ length entries → length entries ≤ i → IsAsked entries demands i asked
-    → demands_of asked ≡ of_outlines (entries_of entries) (demands_of demands)
-all_asked entries demands asked i e p q h =
-    let same : i ≡ length entries = omega arith in
-    let other : i ≡ length demands = same ∙ e in
-    h ∙ ap (λ (l : List Entry). of_outlines (entries_of l) (demands_of (take i demands))) (ap (λ (n : ℕ). take n entries) same ∙ take-length entries)
-    ∙ ap (λ (l : List Demand). of_outlines (entries_of entries) (demands_of l)) (ap (λ (n : ℕ). take n demands) other ∙ take-length demands)

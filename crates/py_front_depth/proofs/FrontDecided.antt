@@ -36,9 +36,6 @@ use Rattle.py_front_depth.specs.Noted.{AreNoted}
 use Rattle.py_front_depth.specs.Reaching.{StandsHere, IsBehind}
 use Rattle.std.proofs.lemmas.Option.{same_Some}
 
-pub no_front : (front : List Token) → IsBehind front None → AreOrdered front → IsFirstInFront None front
-no_front front none o p t = none t.1.1.0 t.1.0 t.1.1.1
-
 drops_not : (symbols : List meaning.Symbol) → acts_first symbols ≡ false → drops_first symbols ≡ false
 drops_not [] h = refl
 drops_not (Tok k ∷ symbols) h = refl

@@ -22,8 +22,8 @@ use Rattle.py_depth.specs.declared.shape.Entry.{Entry}
 use Rattle.py_depth.specs.declared.walk.Demand.{Demand}
 use Rattle.shed_base.specs.declared.place.Place.{Place}
 use Rattle.py_front_depth.specs.Noted.{depth_at, AreNoted}
-use Rattle.py_front_depth.proofs.Entries.{entries_split, entries_of-nothing, demands_split}
-use Rattle.py_front_depth.proofs.Stacks.{events_of-push, events_of-nothing}
+use Rattle.py_depth.proofs.Stacks.{entries_of-nothing, events_of-push, events_of-nothing}
+use Rattle.py_front_depth.proofs.Entries.{entries_split, demands_split}
 
 -- keys are told apart by their places
 abbrev pub IsByPlace : (Place → Place → Bool) → Type 0
@@ -110,14 +110,6 @@ walk_split events (suc j) x ds more some es all p q h e f =
     ap (λ l. walk l ds) split ∙ met ∙ ap (λ (l : List walking.Demand). with_met some (walk (events_of (take j events)) l)) (sym (rw one at e)) in
     rw one (subst (λ (l : List Met). AreLeft es l all) there h)
 
-pub walk_begun : (events : List Event) (ds : List walking.Demand) (es : List (Place × ℕ)) → es ≡ [] → AreLeft es (walk (events_of (take (length events) events)) ds) (walk (events_of events) ds)
-walk_begun events ds es e at =
-    ap (λ (l : List (Place × ℕ)). max (depth_at l at) (met_depth (same_place at) (walk (events_of (take (length events) events)) ds))) e ∙ none_yet (met_depth (same_place at) (walk (events_of (take (length events) events)) ds))
-    ∙ ap (λ (l : List Event). met_depth (same_place at) (walk (events_of l) ds)) (take-length events)
-  where
-    none_yet : (n : ℕ) → max 0 n ≡ n
-    none_yet n = omega arith
-
 pub walk_done : (events : List Event) (i : ℕ) (ds : List walking.Demand) (es : List (Place × ℕ)) (all : List Met) → i ≤ 0 → AreLeft es (walk (events_of (take i events)) ds) all → AreNoted es all
 walk_done events zero ds es all p h = λ at.
     let none : depth_at es at ≡ max (depth_at es at) (met_depth (same_place at) (walk [] ds)) = omega arith in
@@ -155,25 +147,10 @@ tokens_same old now entries demands i x d p found e q h m f nodes n at =
     ∙ ap (met_depth (same_place at))
     (sym (tokens_split entries demands i x d nodes e q ∙ m (tokens_met (entries_of (take i entries)) (demands_of (take i demands)) nodes) ∙ ap (λ (o : Option ℕ). met p o (tokens_met (entries_of (take i entries)) (demands_of (take i demands)) nodes)) f)))
 
-pub tokens_done : (old now : List (Place × ℕ)) (entries : List Entry) (demands : List Demand) (i : ℕ) → length entries ≡ length demands → i ≤ length entries → length entries ≤ i → TokensNoted old now entries demands i
-    → (nodes : List Met) → AreNoted old nodes → AreNoted now (tokens_met (entries_of entries) (demands_of demands) nodes)
-tokens_done old now entries demands i e p q h nodes n at =
-    let one : i ≡ length entries = omega arith in
-    let two : i ≡ length demands = omega arith in
-    h nodes n at ∙ ap (λ (l : List Entry). met_depth (same_place at) (tokens_met (entries_of l) (demands_of (take i demands)) nodes)) (ap (λ (n : ℕ). take n entries) one ∙ take-length entries)
-    ∙ ap (λ (l : List Demand). met_depth (same_place at) (tokens_met (entries_of entries) (demands_of l) nodes)) (ap (λ (n : ℕ). take n demands) two ∙ take-length demands)
-
 -- the first place, token by token
 abbrev pub IsFirstFrom : List (Place × ℕ) → List (Place × ℕ) → List TokenRead → ℕ → Type 0
 IsFirstFrom es others tokens i =
     (texts : List (List ℕ)) (nodes more : List Met) → AreNoted es nodes → AreNoted others more → first_in_both nodes more (plain_tokens texts tokens) ≡ first_in_both nodes more (plain_tokens texts (drop i tokens))
-
-pub found_first : (es others : List (Place × ℕ)) (tokens : List TokenRead) (i : ℕ) (x : TokenRead) (b : Bool) → i < length tokens → IsFirstFrom es others tokens i
-    → ((nodes more : List Met) → AreNoted es nodes → AreNoted others more → b ≡ is_deep_in_both nodes more (plain_place (get_or tokens i x).place)) → b ≡ true
-    → (texts : List (List ℕ)) (nodes more : List Met) → AreNoted es nodes → AreNoted others more → Some (plain_place (get_or tokens i x).place) ≡ first_in_both nodes more (plain_tokens texts tokens)
-found_first es others tokens i x b p h f t texts nodes more n m =
-    sym (h texts nodes more n m ∙ ap (λ (l : List TokenRead). first_in_both nodes more (plain_tokens texts l)) (drop-cons tokens i x p)
-    ∙ ap (λ (c : Bool). if c then Some (plain_place (get_or tokens i x).place) else first_in_both nodes more (plain_tokens texts (drop (suc i) tokens))) (sym (f nodes more n m) ∙ t))
 
 pub first_further : (es others : List (Place × ℕ)) (tokens : List TokenRead) (i : ℕ) (x : TokenRead) (b : Bool) → i < length tokens → IsFirstFrom es others tokens i
     → ((nodes more : List Met) → AreNoted es nodes → AreNoted others more → b ≡ is_deep_in_both nodes more (plain_place (get_or tokens i x).place)) → b ≡ false → IsFirstFrom es others tokens (i + 1)

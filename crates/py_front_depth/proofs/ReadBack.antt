@@ -25,8 +25,10 @@ use Rattle.py_front_depth.specs.declared.aim.Aim.{Aim}
 use Rattle.py_front_depth.specs.declared.ask.Ask.{Ask}
 use Rattle.py_front_depth.specs.declared.ask.Ask.TheVariants as ask
 use Rattle.py_front_depth.specs.declared.readings.Reading.{Reading}
-use Rattle.py_front_depth.proofs.Entries.{entries_split, entries_of-nothing}
-use Rattle.py_front_depth.proofs.Stacks.{asks_of-push, asks_of-nothing, aims_of-push, aims_of-nothing, stack_of-push, stack_of-nothing}
+use Rattle.py_depth.proofs.Stacks.{entries_of-nothing}
+use Rattle.py_table.proofs.SymbolStacks.{stack_of-push, stack_of-nothing}
+use Rattle.py_front_depth.proofs.Entries.{entries_split}
+use Rattle.py_front_depth.proofs.Stacks.{asks_of-push, asks_of-nothing, aims_of-push, aims_of-nothing}
 
 asks_split : (asks : List Ask) (i : ℕ) (x : Ask) → i < length asks → asks_of (take (suc i) asks) ≡ plain_ask (get_or asks i x) ∷ asks_of (take i asks)
 asks_split asks i x p = ap asks_of (take-suc asks i x p) ∙ asks_of-push (take i asks) (get_or asks i x)
@@ -37,17 +39,10 @@ aims_split aims i x p = ap aims_of (take-suc aims i x p) ∙ aims_of-push (take 
 symbols_split : (symbols : List Symbol) (i : ℕ) (x : Symbol) → i < length symbols → stack_of (take (suc i) symbols) ≡ plain_symbol (get_or symbols i x) ∷ stack_of (take i symbols)
 symbols_split symbols i x p = ap stack_of (take-suc symbols i x p) ∙ stack_of-push (take i symbols) (get_or symbols i x)
 
--- one more is asked simply
-pub simply_begun : (asks : List Ask) (aims : List Aim) → aims ≡ [] → aims_of aims ≡ map aiming.Simply (asks_of (take 0 asks))
-simply_begun asks aims e = ap aims_of e ∙ aims_of-nothing ∙ ap (map aiming.Simply) (sym asks_of-nothing)
-
 pub simply_more : (asks : List Ask) (i : ℕ) (x : Ask) (now next : List aiming.Aim) → i < length asks → now ≡ map aiming.Simply (asks_of (take i asks)) → next ≡ aiming.Simply (plain_ask (get_or asks i x)) ∷ now
     → next ≡ map aiming.Simply (asks_of (take (i + 1) asks))
 simply_more asks i x now next p h e =
     let one : i + 1 ≡ suc i = omega arith in rw one (e ∙ ap (λ (l : List aiming.Aim). aiming.Simply (plain_ask (get_or asks i x)) ∷ l) h ∙ ap (map aiming.Simply) (sym (asks_split asks i x p)))
-
-pub simply_all_so : (asks : List Ask) (i : ℕ) (now : List aiming.Aim) → i ≤ length asks → length asks ≤ i → now ≡ map aiming.Simply (asks_of (take i asks)) → now ≡ map aiming.Simply (asks_of asks)
-simply_all_so asks i now p q h = let same : i ≡ length asks = omega arith in h ∙ ap (λ (l : List Ask). map aiming.Simply (asks_of l)) (ap (λ (n : ℕ). take n asks) same ∙ take-length asks)
 
 -- nothing that is read can't be a target
 settled_clear : (s : meaning.Symbol) (qs : List at_least.Ask) (r : readings.Reading) → settled_before s qs ≡ Some r → IsClear r
@@ -92,9 +87,6 @@ none_more_read symbols i p h =
     let one : i + 1 ≡ suc i = omega arith in
     let x : Symbol = symbol.Expand nonterminal.Module in
     rw one (ap (reading_before (plain_symbol (get_or symbols i x))) h ∙ ap readings.reading (sym (symbols_split symbols i x p)))
-
-pub all_read : (symbols : List Symbol) (i : ℕ) (now : Option readings.Reading) → i ≤ length symbols → length symbols ≤ i → now ≡ readings.reading (stack_of (take i symbols)) → now ≡ readings.reading (stack_of symbols)
-all_read symbols i now p q h = let same : i ≡ length symbols = omega arith in h ∙ ap (λ (l : List Symbol). readings.reading (stack_of l)) (ap (λ (n : ℕ). take n symbols) same ∙ take-length symbols)
 
 -- what is asked of so many parts
 abbrev pub asked_first : List Aim → List Entry → ℕ → Option (List walking.Demand)
@@ -148,5 +140,3 @@ none_asked_so aims entries i x y now e p h f =
         n_less zero (suc j) p = absurd (omega arith)
         n_less (suc n) (suc j) p = let r = n_less n j (omega arith) in (r.0, (let q = r.1 in omega arith))
 
-pub all_asked_so : (aims : List Aim) (entries : List Entry) (i : ℕ) (now : List walking.Demand) → length aims ≡ length entries → i ≤ length aims → length aims ≤ i → asked_first aims entries i ≡ Some now → Some now ≡ of_aims (aims_of aims) (entries_of entries)
-all_asked_so aims entries i now e p q h = let same : i ≡ length aims = omega arith in sym h ∙ ap (asked_first aims entries) same ∙ all_first aims entries e

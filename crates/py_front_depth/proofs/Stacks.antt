@@ -15,6 +15,8 @@ use Rattle.py_depth.specs.PlainEntries.{plain_event, events_of}
 use Rattle.py_depth.specs.declared.event.Event.{Event}
 use Rattle.py_depth.specs.declared.walk.Demand.{Demand}
 use Rattle.py_depth.specs.declared.walk.Demand.TheVariants as demand
+use Rattle.py_depth.proofs.Demands.{demands_of-push, demands_of-nothing}
+use Rattle.py_table.proofs.SymbolStacks.{stack_of-push, stack_of-nothing}
 use Rattle.py_table.specs.PlainSymbols.{plain_symbol}
 use Rattle.py_table.specs.Steps.{stack_of}
 use Rattle.py_table.specs.declared.symbol.Symbol.{Symbol}
@@ -23,30 +25,6 @@ use Rattle.py_front_depth.specs.PlainRoles.{plain_role, plain_roles}
 use Rattle.py_front_depth.specs.declared.aim.Aim.{Aim}
 use Rattle.py_front_depth.specs.declared.ask.Ask.{Ask}
 use Rattle.py_front_depth.specs.declared.role.Role.{Role}
-
-pub demands_of-push : (xs : List Demand) (x : Demand) → demands_of (xs ++ x ∷ []) ≡ plain_demand x ∷ demands_of xs
-unfolding demands_of
-demands_of-push xs x = ap (map plain_demand) (reverse-append xs (x ∷ []))
-
-pub demands_of-nothing : demands_of [] ≡ []
-unfolding demands_of
-demands_of-nothing = refl
-
-pub events_of-push : (xs : List Event) (x : Event) → events_of (xs ++ x ∷ []) ≡ plain_event x ∷ events_of xs
-unfolding events_of
-events_of-push xs x = ap (map plain_event) (reverse-append xs (x ∷ []))
-
-pub events_of-nothing : events_of [] ≡ []
-unfolding events_of
-events_of-nothing = refl
-
-pub stack_of-push : (xs : List Symbol) (x : Symbol) → stack_of (xs ++ x ∷ []) ≡ plain_symbol x ∷ stack_of xs
-unfolding stack_of
-stack_of-push xs x = ap (map plain_symbol) (reverse-append xs (x ∷ []))
-
-pub stack_of-nothing : stack_of [] ≡ []
-unfolding stack_of
-stack_of-nothing = refl
 
 pub asks_of-push : (xs : List Ask) (x : Ask) → asks_of (xs ++ x ∷ []) ≡ plain_ask x ∷ asks_of xs
 unfolding asks_of
@@ -81,11 +59,6 @@ pub asked_before : (roles : List Role) (i : ℕ) (d : Role) (asked : walking.Dem
     → next ∷ now ≡ map (asking.asked_by asked) (plain_roles (drop (i - 1) roles)) ++ below
 asked_before roles i d asked now next below p q h e = one_before (asking.asked_by asked) plain_role roles i d now next below p q h e
 
--- an action that isn't `Drop`
-pub by_roles : (a : Action) (d : walking.Demand) (ds : List walking.Demand) → (a ≡ Drop → ⊥) → exactly_by a (d ∷ ds) ≡ Some (map (asking.asked_by d) (asking.roles a) ++ ds)
-by_roles Drop d ds h = absurd (h refl)
-by_roles _ d ds h = refl
-
 -- one symbol more
 pub one_more_back : (symbols : List Symbol) (i : ℕ) (d : Symbol) (start old new : List walking.Demand) → i < length symbols
     → exactly (stack_of (take i symbols)) (Some start) ≡ Some old → exactly_symbol (plain_symbol (get_or symbols i d)) old ≡ Some new
@@ -101,24 +74,9 @@ pub begun : (none one : List Demand) → none ≡ [] → one ≡ none ++ demand.
 unfolding stack_of demands_of
 begun none one e f = ap (λ (l : List Demand). Some (demands_of l)) (sym (f ∙ ap (λ (l : List Demand). l ++ demand.Whole 0 ∷ []) e))
 
--- behind the last
-pub all_back : (symbols : List Symbol) (i : ℕ) (start now : List walking.Demand) → i ≤ length symbols → length symbols ≤ i → exactly (stack_of (take i symbols)) (Some start) ≡ Some now → exactly (stack_of symbols) (Some start) ≡ Some now
-all_back symbols i start now p q h =
-    let same : i ≡ length symbols = omega arith in
-    ap (λ (l : List Symbol). exactly (stack_of l) (Some start)) (sym (ap (λ (n : ℕ). take n symbols) same ∙ take-length symbols)) ∙ h
-
 pub stack_of-none : (xs : List Symbol) → length xs ≡ 0 → stack_of xs ≡ []
 stack_of-none [] h = stack_of-nothing
 stack_of-none (x ∷ xs) h = absurd (omega arith)
-
--- whether one of some is none that may be
-pub never_joined : (these those : List aims.Aim) → has_never those ≡ false → has_never (these ++ those) ≡ has_never these
-never_joined [] those h = h
-never_joined (aims.Never ∷ these) those h = refl
-never_joined (aims.Simply q ∷ these) those h = never_joined these those h
-never_joined (aims.Targets n ∷ these) those h = never_joined these those h
-never_joined (aims.Target n ∷ these) those h = never_joined these those h
-never_joined (aims.MayTarget n ∷ these) those h = never_joined these those h
 
 pub never_first : (a : aims.Aim) (these : List aims.Aim) → has_never (a ∷ these) ≡ (is_never_so a || has_never these)
 never_first aims.Never these = refl

@@ -137,18 +137,3 @@ not_finished ahead (Do a ∷ symbols) v d h = absurd (cc)
 pub done_so : (front ahead : List Token) (symbols : List Symbol) (old : Nest) (A : Parts → Type 0) → ((v : Parts) × Behind front ahead symbols v × Ready symbols ahead × StandsFor old v) → is_done ahead symbols ≡ false
     → ((v : Parts) → StandsFor old v → (one_step symbols v ahead ≡ Finished) × A v) → (more : List Token) (body : Body) → IsModule body (front ++ more) → ⊥
 done_so front ahead symbols old A h d s more body m = not_finished ahead symbols h.0 d (s h.0 h.3).0
-
--- all is read, and no action comes next
-pub nothing_ahead : (ahead : List Token) (symbols : List Symbol) → is_done ahead symbols ≡ true → (ahead ≡ []) × (acts_first symbols ≡ false)
-nothing_ahead [] symbols d = (refl, go (acts_first symbols) refl d)
-  where
-    go : (c : Bool) → acts_first symbols ≡ c → not c ≡ true → c ≡ false
-    go true e f = absurd (cc)
-    go false e f = refl
-nothing_ahead (t ∷ ts) symbols d = absurd (cc)
-
--- so the run stands behind the front
-pub arrived : (front ahead : List Token) (symbols : List SymbolKept) (nest : Nest) → StandsHere front ahead symbols nest → is_done ahead (stack_of symbols) ≡ true → StandsHere front [] symbols nest × (acts_first (stack_of symbols) ≡ false)
-arrived front ahead symbols nest h d =
-    let n = nothing_ahead ahead (stack_of symbols) d in
-    (subst (λ (l : List Token). StandsHere front l symbols nest) n.0 h, n.1)

@@ -18,12 +18,6 @@ merged-apart (t ∷ u ∷ ts) h = ap (put_before t) (merged-apart (u ∷ ts) h.1
 
 -- ---- one more token
 
--- the last token is no text
-abbrev pub EndsPlain : List Token → Type 0
-EndsPlain [] = Unit {0}
-EndsPlain (t ∷ []) = is_text t.kind ≡ false
-EndsPlain (t ∷ u ∷ ts) = EndsPlain (u ∷ ts)
-
 no_text : (a b : Bool) → b ≡ false → (a && b) ≡ false
 no_text true b h = h
 no_text false b h = refl

@@ -6,9 +6,6 @@ use Rattle.py_nesting.specs.Depths.{here, under, names_depth, loop_target_depth,
 use Rattle.py_nesting.specs.Outlines.{Outlines, none_below, outline_depth, outlines_depth}
 use Rattle.py_nesting.specs.TreeOutlines.{leaf, two_below, names_outlines, loop_target_outline, expr_outline, exprs_outlines, maybe_outlines, pairs_outlines, links_outlines, keywords_outlines, loops_outlines, target_outline, target_list_outlines, targets_outline, assigned_outlines, parameters_outlines, stmt_outline, stmts_outlines, body_outline, definition_outlines, handlers_outlines, OutlineLaw}
 
-same_leaf : (at : Place → Bool) (p : Place) → outline_depth at (leaf p) ≡ here (at p)
-same_leaf at p = omega arith
-
 -- a node over what has the same depth
 same_node : (at : Place → Bool) (p : Place) (m n : ℕ) → m ≡ n → under (at p) m ≡ under (at p) n
 same_node at p m n e = ap (under (at p)) e

@@ -243,6 +243,62 @@ const FRONTS: [(&str, &str, &str, &str, &str, usize, &str); 13] = [
     ),
 ];
 
+// What each kind of node adds to the depth of what breaks off within it.
+const FRONTS_OF_NODES: [(&str, &str, &str, &str, &str, usize, &str); 18] = [
+    ("x = ", "-", "1 2", "", "\n", 99, "1:106 2"),
+    ("x = ", "-", "1 2", "", "\n", 100, "1:105 too deep"),
+    ("x = ", "a ** ", "b c", "", "\n", 99, "1:502 c"),
+    ("x = ", "a ** ", "b c", "", "\n", 100, "1:500 too deep"),
+    ("x = ", "[", "1 2", "]", "\n", 99, "1:106 2"),
+    ("x = ", "[", "1 2", "]", "\n", 100, "1:105 too deep"),
+    ("x = ", "{1: ", "1 2", "}", "\n", 99, "1:403 2"),
+    ("x = ", "{1: ", "1 2", "}", "\n", 100, "1:402 too deep"),
+    ("x = ", "a[", "1 2", "]", "\n", 99, "1:205 2"),
+    ("x = ", "a[", "1 2", "]", "\n", 100, "1:203 too deep"),
+    ("x = ", "f(", "1 2", ")", "\n", 99, "1:205 2"),
+    ("x = ", "f(", "1 2", ")", "\n", 100, "1:203 too deep"),
+    ("x = ", "f(y=", "1 2", ")", "\n", 100, "1:401 too deep"),
+    ("x = a", "", "", ".b", " c\n", 99, "1:205 c"),
+    ("x = a", "", "", ".b", " c\n", 100, "1:5 too deep"),
+    ("x = ", "[a for b in ", "1 2", "]", "\n", 99, "1:1195 2"),
+    (
+        "x = ",
+        "[a for b in ",
+        "1 2",
+        "]",
+        "\n",
+        100,
+        "1:1194 too deep",
+    ),
+    ("x = 1", "", "", " < 2", " 3\n", 1000, "1:4007 3"),
+];
+
+// Texts that end before a module does: an operand is still to come, or a block.
+const UNFINISHED: [(&str, &str, &str, &str, &str, usize, &str); 6] = [
+    ("x = 1", "", "", " + 1", " +\n", 98, "1:400 NEWLINE"),
+    ("x = 1", "", "", " + 1", " +\n", 99, "1:5 too deep"),
+    ("x = a", "", "", "[0]", ".\n", 98, "1:301 NEWLINE"),
+    ("x = a", "", "", "[0]", ".\n", 99, "1:5 too deep"),
+    (
+        "if x: pass\n",
+        "",
+        "",
+        "elif x: pass\n",
+        "else:\n",
+        99,
+        "101:6 END",
+    ),
+    (
+        "if x: pass\n",
+        "",
+        "",
+        "elif x: pass\n",
+        "else:\n",
+        100,
+        "101:6 too deep",
+    ),
+];
+
 // Operators behind brackets stand over what comes before, where the text goes on to them, and else they don't.
 const OPERATORS_OVER_BRACKETS: [(&str, &str, &str, &str, &str, usize, &str); 5] = [
     ("(x", "", "", " + 1", " + ((1 2)))\n", 97, "1:398 2"),
@@ -336,6 +392,48 @@ fn deep_primaries_are_refused(rt: HostRuntime) -> Result<(), Fail> {
 #[test]
 fn deep_fronts_are_refused(rt: HostRuntime) -> Result<(), Fail> {
     assert_eq!(rt; nested_differences(rt.alloc(), &FRONTS)?.as_str(), "");
+    Ok(())
+}
+
+#[test]
+fn deep_fronts_of_nodes_are_refused(rt: HostRuntime) -> Result<(), Fail> {
+    assert_eq!(rt;
+        nested_differences(rt.alloc(), &FRONTS_OF_NODES)?.as_str(),
+        ""
+    );
+    Ok(())
+}
+
+#[test]
+fn deep_unfinished_texts_are_refused(rt: HostRuntime) -> Result<(), Fail> {
+    assert_eq!(rt;
+        nested_differences(rt.alloc(), &UNFINISHED)?.as_str(),
+        ""
+    );
+    Ok(())
+}
+
+// Heads of so many blocks, each in the one before it, and no statement in the last.
+fn heads(alloc: Global, count: usize) -> Result<String, Fail> {
+    let mut text = String::new(alloc);
+    for depth in 0..count {
+        let indentation = " ".repeat(alloc, depth)?;
+        let head = format!(in alloc; "{indentation}if x:\n")?;
+        text.push_str(head.as_str())?;
+    }
+    Ok(text)
+}
+
+// The condition of the 101st head is the first node with more than 100 others above it.
+#[test]
+fn deep_unfinished_blocks_are_refused(rt: HostRuntime) -> Result<(), Fail> {
+    let alloc = rt.alloc();
+    let text = heads(alloc, 100)?;
+    assert_eq!(rt; told(alloc, text.as_str())?.as_str(), "100:105 DEDENT");
+    let text = heads(alloc, 101)?;
+    assert_eq!(rt; told(alloc, text.as_str())?.as_str(), "101:104 too deep");
+    let text = heads(alloc, 200)?;
+    assert_eq!(rt; told(alloc, text.as_str())?.as_str(), "101:104 too deep");
     Ok(())
 }
 

@@ -1,6 +1,7 @@
 use Rattle.std.proofs.Common.{ap, ◌∙◌}
 use Rattle.py_depth.specs.PlainDemands.{plain_demand, demands_of}
-use Rattle.py_front_depth.proofs.Stacks.{demands_of-push, asked_before}
+use Rattle.py_depth.proofs.Demands.{demands_of-push}
+use Rattle.py_front_depth.proofs.Stacks.{asked_before}
 use Rattle.py_front_depth.proofs.demands.push_asked.Goals as goal
 
 pub loop-i-preserved : goal.loop-i-preserved

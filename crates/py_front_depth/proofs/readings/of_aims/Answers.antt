@@ -2,7 +2,7 @@ use Rattle.std.proofs.Common.{ap, sym, ◌∙◌}
 use Rattle.std.specs.Option.{option_map}
 use Rattle.py_depth.specs.PlainDemands.{plain_demand, demands_of}
 use Rattle.py_front_depth.proofs.ReadBack.{asked_begun, asked_more, none_asked_so}
-use Rattle.py_front_depth.proofs.Stacks.{demands_of-push, demands_of-nothing}
+use Rattle.py_depth.proofs.Demands.{demands_of-push, demands_of-nothing}
 use Rattle.py_front_depth.proofs.readings.of_aims.Goals as goal
 
 pub loop-i-init : goal.loop-i-init
