@@ -57,7 +57,7 @@ read_so (suc n) front (t ∷ ts) (Non x ∷ symbols) v b y = go (pick table sets
         let i = pick_is_row table sets x v (sight table (t ∷ ts)) r e in
         again (r.symbols ++ symbols) (behind_row front ts t x r symbols v e i.0 i.1 b) (ready_law.3 front ts t x r symbols v i.0 b y)
 
-drops_not : (symbols : List Symbol) → acts_first symbols ≡ false → drops_first symbols ≡ false
+pub drops_not : (symbols : List Symbol) → acts_first symbols ≡ false → drops_first symbols ≡ false
 drops_not [] h = refl
 drops_not (Tok k ∷ symbols) h = refl
 drops_not (Non x ∷ symbols) h = refl

@@ -23,6 +23,7 @@ use Rattle.py_demands.proofs.BothFound.{both_found_law}
 use Rattle.py_demands.proofs.FrontFirst.{first_in_front}
 use Rattle.py_demands.proofs.OrderedFronts.{ordered_apart, ordered_in_order}
 use Rattle.py_demands.proofs.ReadItems.{reached_read_law}
+use Rattle.py_demands.proofs.ShallowFronts.{drops_not}
 use Rattle.py_demands.proofs.ReadingsLow.{reading_law}
 use Rattle.py_demands.proofs.Ways.{closing_law}
 use Rattle.py_table.specs.Steps.{stack_of}
@@ -35,12 +36,6 @@ use Rattle.shed_base.specs.declared.place.Place.{Place as PlaceRead}
 use Rattle.py_front_depth.specs.Noted.{AreNoted}
 use Rattle.py_front_depth.specs.Reaching.{StandsHere, IsBehind}
 use Rattle.std.proofs.lemmas.Option.{same_Some}
-
-drops_not : (symbols : List meaning.Symbol) → acts_first symbols ≡ false → drops_first symbols ≡ false
-drops_not [] h = refl
-drops_not (Tok k ∷ symbols) h = refl
-drops_not (Non x ∷ symbols) h = refl
-drops_not (Do a ∷ symbols) h = absurd (cc)
 
 -- the demands of the symbols that are closed
 abbrev Closes : List Symbol → List walking.Demand → Type 0
