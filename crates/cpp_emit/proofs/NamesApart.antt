@@ -5,7 +5,7 @@ use Rattle.std.specs.Bool.{Decides}
 use Rattle.std.specs.Str.{bytes_eq}
 use Rattle.std.specs.Fmt.{decimal}
 use Rattle.std.proofs.lemmas.Slice.Eq.{bytes_eq-Decides}
-use Rattle.shed_meaning.specs.EmittedName.{encoded, global_name, body_name, temporary_name}
+use Rattle.shed_meaning.specs.EmittedName.{encoded, global_name, temporary_name}
 
 -- the name that an encoding was made from: the character behind a `Z` stands for itself
 abbrev decoded : Bool → List ℕ → List ℕ

@@ -1,5 +1,5 @@
 -- The names that are bound, name by name.
-use Rattle.std.proofs.Common.{◌≡◌, ℕ, ◌+◌, ◌<◌, ◌≤◌, length, drop, get_or, List, [], ◌∷◌, ◌++◌, Bool, true, false, refl, sym, ap, ◌∙◌, append_assoc}
+use Rattle.std.proofs.Common.{◌≡◌, ℕ, ◌+◌, ◌<◌, length, drop, get_or, List, [], ◌∷◌, ◌++◌, Bool, true, false, refl, sym, ap, ◌∙◌, append_assoc}
 use Rattle.std.specs.Prelude.{◌||◌, if◌then◌else◌}
 use Rattle.std.proofs.lemmas.List.{append-nil}
 use Rattle.py_meaning.specs.Name.{Name, same_name}
@@ -11,7 +11,6 @@ use Rattle.py_built.proofs.NamesKept.{has_last}
 use Rattle.py_built.proofs.UnbuiltSteps.{drop_at}
 use Rattle.py_built.specs.declared.tree.Stmt.{Stmt}
 use Rattle.py_built.specs.PlainTrees.{plain_stmt, plain_body}
-use Rattle.std.proofs.Math.ListN.{drop_of_length-le}
 
 once_same : (names s t : List Name) → ((y : Name) → has_name s y ≡ has_name t y) → once s names ≡ once t names
 once_same [] s t same = refl

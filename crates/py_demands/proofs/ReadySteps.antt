@@ -4,7 +4,7 @@ use Rattle.grammars.specs.Grammar.{Tok, Non, Do, Row, IsRow}
 use Rattle.grammars.proofs.Bools.{and_left, and_right, both}
 use Rattle.py_syntax.specs.Token.{Token}
 use Rattle.py_syntax.specs.Build.{Parts, Action, AddItem}
-use Rattle.py_syntax.specs.Table.{Symbol, Nonterminal, rows, Module, SmallTail, AssignTail, ItemMore, ItemNext, Expression, AnyName}
+use Rattle.py_syntax.specs.Table.{Symbol, Nonterminal, rows, Module, ItemMore, ItemNext, Expression, AnyName}
 use Rattle.py_demands.specs.Aimed.{ItemAsks}
 use Rattle.py_demands.specs.Aims.{Aim, Simply, Targets, Target, aims_before, aimed, may_aim, may_aim_first, are_aimable}
 use Rattle.py_demands.specs.Least.{Ask, NoNode, AtLeast, WithinAtLeast, OpenAtLeast, before, least, may_ask_first, are_askable}

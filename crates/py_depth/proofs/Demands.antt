@@ -1,11 +1,11 @@
 -- The stack of demands has its top at the end, and nodes that are met come one by one.
-use Rattle.std.proofs.Common.{◌≡◌, ℕ, zero, suc, ◌-◌, ◌<◌, ◌≤◌, List, [], ◌∷◌, ◌++◌, map, length, take, get_or, Option, Some, None, refl, sym, ap, ◌∙◌, arith}
+use Rattle.std.proofs.Common.{◌≡◌, ℕ, zero, suc, ◌-◌, ◌<◌, ◌≤◌, List, [], ◌∷◌, ◌++◌, map, length, take, get_or, Option, refl, sym, ap, ◌∙◌, arith}
 use Rattle.std.proofs.Math.Seq.{take-suc, take-length}
 use Rattle.std.proofs.lemmas.List.{reverse-append}
 use Rattle.py_tokens.specs.Token as token
 use Rattle.py_nesting.specs.Walk as walking
 use Rattle.py_nesting.specs.Walk.{Met, met, walk, back, brought}
-use Rattle.py_nesting.specs.First.{sooner, first_of}
+use Rattle.py_nesting.specs.First.{first_of}
 use Rattle.py_depth.specs.PlainEntries.{plain_event, events_of}
 use Rattle.py_depth.specs.PlainDemands.{plain_demand, demands_of}
 use Rattle.py_depth.specs.declared.event.Event.{Event}

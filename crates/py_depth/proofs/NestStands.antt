@@ -1,14 +1,14 @@
 -- Entries and events stand for parts.
 use Rattle.std.proofs.Common.{◌≡◌, Bool, List, ◌++◌, Option, Some, None, refl, sym, ap, ◌∙◌}
-use Rattle.py_syntax.specs.Build.{Parts, Action, act, are_targets_last, is_target_last, is_name_last}
+use Rattle.py_syntax.specs.Build.{Parts, Action, act, are_targets_last}
 use Rattle.py_nesting.proofs.EventsAdded.{built_more}
-use Rattle.py_nesting.proofs.FormsAgree.{targets_of_entries, target_of_entries, name_of_entries}
+use Rattle.py_nesting.proofs.FormsAgree.{targets_of_entries}
 use Rattle.py_nesting.specs.Outlines.{Event, built}
 use Rattle.py_nesting.specs.Shapes as shapes
 use Rattle.py_nesting.specs.Shapes.{Entry, outlines_of}
 use Rattle.py_nesting.specs.Effects.{Effect, effect, effect_of, after_all}
 use Rattle.py_nesting.proofs.EffectsKept.{effects_kept}
-use Rattle.py_nesting.specs.Asked.{targets_last, target_last, name_last}
+use Rattle.py_nesting.specs.Asked.{targets_last}
 use Rattle.py_depth.specs.Nests.{onto, IsAfter}
 use Rattle.py_depth.specs.PlainEntries.{entries_of, events_of}
 use Rattle.py_depth.specs.declared.nest.Nest.{Nest}

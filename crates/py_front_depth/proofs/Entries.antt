@@ -1,7 +1,6 @@
 -- Entries and what is asked of them, one after another.
-use Rattle.std.proofs.Common.{◌≡◌, ℕ, zero, suc, ◌-◌, ◌+◌, ◌<◌, ◌≤◌, Bool, true, false, if◌then◌else◌, List, [], ◌∷◌, ◌++◌, map, length, take, get_or, Option, None, refl, sym, ap, ◌∙◌, arith}
-use Rattle.std.proofs.Math.Seq.{take-suc, take-length}
-use Rattle.std.proofs.lemmas.List.{reverse-append}
+use Rattle.std.proofs.Common.{◌≡◌, ℕ, zero, suc, ◌-◌, ◌+◌, ◌<◌, ◌≤◌, Bool, true, false, if◌then◌else◌, List, [], ◌∷◌, ◌++◌, length, take, get_or, Option, None, sym, ap, ◌∙◌, arith}
+use Rattle.std.proofs.Math.Seq.{take-suc}
 use Rattle.py_tokens.specs.Token as token
 use Rattle.py_nesting.specs.First.{first_of}
 use Rattle.py_nesting.specs.Shapes as shapes
@@ -80,4 +79,3 @@ none_more entries demands asked i x b e p h o t =
     rw next
     (h ∙ by_outline false (has_outline (plain_entry (get_or entries i x))) (plain_demand (get_or demands i demand.Nothing)) (of_outlines (entries_of (take i entries)) (demands_of (take i demands))) (sym o ∙ t)
     ∙ sym (asked_split entries demands i x demand.Nothing e p))
-

@@ -2,18 +2,14 @@
 use Rattle.std.proofs.Common.{◌≡◌, ℕ, Bool, true, false, List, [], ◌∷◌, Option, Some, None, ◌⊎◌, inl, inr, refl, sym, ap, ◌∙◌, subst}
 use Rattle.std.specs.Cmp.Lexicographic.{pointwise}
 use Rattle.std.specs.Option.{option_map}
-use Rattle.grammars.specs.Grammar.{Tok, Non, Do}
 use Rattle.grammars.proofs.Bools.{and_left, and_right}
 use Rattle.py_tokens.specs.Token.{Place}
 use Rattle.py_syntax.specs.Token.{Token}
-use Rattle.py_syntax.specs.Table as meaning
 use Rattle.py_nesting.specs.TooDeep.{IsFirstInFront}
 use Rattle.py_nesting.specs.First.{first_of}
 use Rattle.py_nesting.specs.Ordered.{AreOrdered}
 use Rattle.py_nesting.specs.Shapes as shapes
-use Rattle.py_nesting.specs.Shapes.{outlines_of}
 use Rattle.py_nesting.specs.Walk as walking
-use Rattle.py_demands.specs.Behind.{drops_first}
 use Rattle.py_demands.specs.BothFirst.{first_in_both}
 use Rattle.py_demands.specs.Closing.{exactly}
 use Rattle.py_demands.specs.Decided.{IsNoDeeper, InModules}
@@ -34,7 +30,7 @@ use Rattle.py_depth.specs.declared.walk.Demand.{Demand}
 use Rattle.py_depth.specs.PlainDemands.{demands_of}
 use Rattle.shed_base.specs.declared.place.Place.{Place as PlaceRead}
 use Rattle.py_front_depth.specs.Noted.{AreNoted}
-use Rattle.py_front_depth.specs.Reaching.{StandsHere, IsBehind}
+use Rattle.py_front_depth.specs.Reaching.{StandsHere}
 use Rattle.std.proofs.lemmas.Option.{same_Some}
 
 -- the demands of the symbols that are closed

@@ -139,4 +139,3 @@ none_asked_so aims entries i x y now e p h f =
         n_less n zero p = (n, omega arith)
         n_less zero (suc j) p = absurd (omega arith)
         n_less (suc n) (suc j) p = let r = n_less n j (omega arith) in (r.0, (let q = r.1 in omega arith))
-

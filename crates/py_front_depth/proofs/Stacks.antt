@@ -1,18 +1,15 @@
 -- The stacks have their top at the end.
 use Rattle.std.proofs.Common.{◌≡◌, ℕ, zero, suc, ◌-◌, ◌+◌, ◌<◌, ◌≤◌, Bool, true, false, ◌||◌, List, [], ◌∷◌, ◌++◌, map, length, take, drop, get_or, Some, refl, sym, ap, ◌∙◌, arith, drop-cons}
-use Rattle.std.proofs.Math.Seq.{take-suc, take-length}
+use Rattle.std.proofs.Math.Seq.{take-suc}
 use Rattle.std.proofs.lemmas.List.{reverse-append}
-use Rattle.py_syntax.specs.Build.{Action, Drop}
 use Rattle.py_syntax.specs.Table as meaning
 use Rattle.py_nesting.specs.Walk as walking
 use Rattle.py_demands.specs.Roles as asking
 use Rattle.py_demands.specs.Aims as aims
 use Rattle.py_demands.specs.Readings.{has_never}
 use Rattle.py_front_depth.specs.Reading.{is_never_so}
-use Rattle.py_demands.specs.Closing.{exactly, exactly_by, exactly_before, exactly_symbol}
-use Rattle.py_depth.specs.PlainDemands.{plain_demand, demands_of}
-use Rattle.py_depth.specs.PlainEntries.{plain_event, events_of}
-use Rattle.py_depth.specs.declared.event.Event.{Event}
+use Rattle.py_demands.specs.Closing.{exactly, exactly_before, exactly_symbol}
+use Rattle.py_depth.specs.PlainDemands.{demands_of}
 use Rattle.py_depth.specs.declared.walk.Demand.{Demand}
 use Rattle.py_depth.specs.declared.walk.Demand.TheVariants as demand
 use Rattle.py_depth.proofs.Demands.{demands_of-push, demands_of-nothing}

@@ -1,5 +1,5 @@
 -- The run behind a front, step by step.
-use Rattle.std.proofs.Common.{◌≡◌, ℕ, suc, ◌+◌, Bool, true, false, not, ◌==◌, if◌then◌else◌, List, [], ◌∷◌, ◌++◌, Option, Some, None, refl, sym, ap, ◌∙◌, subst, arith, eqb-true}
+use Rattle.std.proofs.Common.{◌≡◌, ℕ, suc, ◌+◌, Bool, true, false, ◌==◌, if◌then◌else◌, List, [], ◌∷◌, ◌++◌, Option, Some, None, refl, sym, ap, ◌∙◌, subst, arith, eqb-true}
 use Rattle.grammars.specs.Grammar.{Tok, Non, Do, Row, Sight, sight}
 use Rattle.grammars.specs.Run.{Done, Stuck, pick, run}
 use Rattle.grammars.proofs.Rows.{pick_is_row}
@@ -28,7 +28,6 @@ use Rattle.py_table.proofs.SymbolStacks.{started}
 use Rattle.py_table.proofs.Turns.{after, sight_of_number, step_runs}
 use Rattle.py_depth.specs.PlainEntries.{entries_of, events_of}
 use Rattle.py_depth.specs.declared.nest.Nest.{Nest}
-use Rattle.py_demands.specs.Readings.{acts_first}
 use Rattle.py_front_depth.specs.Reaching.{is_done, StandsFor, StandsHere}
 
 -- at the beginning nothing stands for nothing

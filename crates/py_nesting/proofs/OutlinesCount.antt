@@ -2,9 +2,9 @@
 use Rattle.std.proofs.Common.{◌≡◌, ℕ, max, Bool, List, [], ◌∷◌, Some, None, arith, ap}
 use Rattle.py_tokens.specs.Token.{Place}
 use Rattle.py_syntax.specs.Tree.{NameAt, LoopTarget, LoopName, LoopNames, LoopParenthesis, Expr, EName, ENumber, EText, ETrue, EFalse, ENone, EParenthesis, EEmptyTuple, ETuple, EList, EListComprehension, EDict, ESet, EAttribute, ECall, ESubscript, ESlice, EUnary, EBinary, ECompare, ENot, EAnd, EOr, EConditional, Exprs, no_exprs, more_exprs, MaybeExpr, no_expr, an_expr, Pairs, no_pairs, more_pairs, Links, no_links, more_links, Keywords, no_keywords, more_keywords, Loops, no_loops, more_loops, Target, TargetName, TargetAttribute, TargetSubscript, Targets, OneTarget, SomeTargets, ParenthesisTargets, BracketTargets, Parameter, Stmt, SExpr, SAssign, SAugmented, SPass, SBreak, SContinue, SReturn, SRaise, SYield, SGlobal, SAssert, SDelete, SIf, SWhile, SFor, STry, SDef, SClass, SImport, SFromImport, Body, no_stmts, more_stmts, Handlers, no_handlers, more_handlers}
-use Rattle.py_nesting.specs.Depths.{here, under, names_depth, loop_target_depth, expr_depth, exprs_depth, maybe_depth, pairs_depth, links_depth, keywords_depth, loops_depth, target_depth, target_list_depth, targets_depth, assigned_depth, parameters_depth, stmt_depth, body_depth, handlers_depth}
+use Rattle.py_nesting.specs.Depths.{under, names_depth, loop_target_depth, expr_depth, exprs_depth, maybe_depth, pairs_depth, links_depth, keywords_depth, loops_depth, target_depth, target_list_depth, targets_depth, assigned_depth, parameters_depth, stmt_depth, body_depth, handlers_depth}
 use Rattle.py_nesting.specs.Outlines.{Outlines, none_below, outline_depth, outlines_depth}
-use Rattle.py_nesting.specs.TreeOutlines.{leaf, two_below, names_outlines, loop_target_outline, expr_outline, exprs_outlines, maybe_outlines, pairs_outlines, links_outlines, keywords_outlines, loops_outlines, target_outline, target_list_outlines, targets_outline, assigned_outlines, parameters_outlines, stmt_outline, stmts_outlines, body_outline, definition_outlines, handlers_outlines, OutlineLaw}
+use Rattle.py_nesting.specs.TreeOutlines.{two_below, names_outlines, loop_target_outline, expr_outline, exprs_outlines, maybe_outlines, pairs_outlines, links_outlines, keywords_outlines, loops_outlines, target_outline, target_list_outlines, targets_outline, assigned_outlines, parameters_outlines, stmt_outline, stmts_outlines, body_outline, definition_outlines, handlers_outlines, OutlineLaw}
 
 -- a node over what has the same depth
 same_node : (at : Place → Bool) (p : Place) (m n : ℕ) → m ≡ n → under (at p) m ≡ under (at p) n

@@ -406,10 +406,7 @@ fn deep_fronts_of_nodes_are_refused(rt: HostRuntime) -> Result<(), Fail> {
 
 #[test]
 fn deep_unfinished_texts_are_refused(rt: HostRuntime) -> Result<(), Fail> {
-    assert_eq!(rt;
-        nested_differences(rt.alloc(), &UNFINISHED)?.as_str(),
-        ""
-    );
+    assert_eq!(rt; nested_differences(rt.alloc(), &UNFINISHED)?.as_str(), "");
     Ok(())
 }
 
